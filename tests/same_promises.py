@@ -3,9 +3,11 @@
 
     same_promises.py COMMIT [CRATE..]
 
-A crate promises by the head and the clauses of each function, by the types, traits and ghost items beside these, and by the definitions and records of
-specs/. Comments, imports, layout, bodies and proofs are left out. It prints each of these items that is new, gone or changed, and `private` before one
-that other crates can't name: a private function of src/. It fails if another item is changed.
+A crate promises by the head and the clauses of each function, by the types with what they derive, traits and ghost items beside these, by what it passes
+on with `pub use`, and by the definitions and records of specs/. Comments, layout, bodies and proofs are left out. It prints each of these items that is
+new, gone or changed, and `private` before one that other crates can't name: a private function of src/. A name that a clause or a definition takes by
+`use` counts too where another module gives it now; that it is imported no more, or for the first time, does not count. It fails if an item counts that
+is not private.
 """
 
 from __future__ import annotations
@@ -21,10 +23,14 @@ FUNCTION = re.compile(r"( *)(pub(?:\([^)]*\))? )?(?:const |unsafe )*fn (\w+)")
 # What the functions that follow stand in.
 OWNER = re.compile(r"(?:pub(?:\([^)]*\))? )?(?:unsafe )?(?:impl\b|trait )")
 ITEM = re.compile(r"(?:pub(?:\([^)]*\))? )?(?:struct|enum|type|const|static|ghost) ?(\w*)")
+# The names that a file takes from a module, and the module that a block takes under a name.
+TAKEN = re.compile(r"(?:ghost )?use ([\w.+]+)\.\{(.*)\};?$|(?:ghost )?use ([\w.+]+?)(?: as (\w+))?;?$")
 # A definition of specs/ begins at the margin.
 DEFINITION = re.compile(r"(?:(?:pattern|unfoldable|abbrev|pub|axiom) )*(?:(?:record|data|ruleset|module|mutual) )?(\S+)")
 
 Items = dict[str, str]
+# What begins the name of an import.
+IMPORT = "import of "
 
 
 def squeezed(lines: list[str]) -> str:
@@ -43,10 +49,24 @@ def end_of_head(lines: list[str], i: int, indent: str) -> int:
     return i - 1
 
 
+def imports(text: str, mark: str) -> Items:
+    """From which module a file takes each name that its clauses and definitions may use, by the name. Those of a block `impl` are not told apart."""
+    found: dict[str, set[str]] = {}
+    for line in filter(lambda it: it.startswith(mark), map(str.strip, text.split("\n"))):
+        if taken := TAKEN.match(line):
+            names = re.split(r", (?![^{]*\})", taken[2]) if taken[2] else [f"{taken[3]} as {taken[4] or taken[3].rpartition('.')[2]}"]
+            for name in names:
+                path, _, own = name.partition(" as ")
+                found.setdefault(f"{IMPORT}{own or path.rpartition('.')[2]}", set()).add(f"{taken[1] or ''}.{path}")
+    return {name: " ".join(sorted(its)) for name, its in found.items()}
+
+
 def items_of_source(text: str) -> Items:
     """The heads of functions and what stands beside them in a file of src/, by their names."""
-    lines = [it for it in text.split("\n") if not re.match(r"\s*(?://|use |ghost use |pub use |#\[|#!\[)", it)]
-    found: Items = {}
+    lines = [it for it in text.split("\n") if not re.match(r"\s*(?://|use |ghost use |#\[(?!derive)|#!\[)", it)]
+    found: Items = imports(text, "ghost use ")
+    found |= {f"passes on {squeezed([it])}": squeezed([it]) for it in re.findall(r"^pub use [^;]*;", text, re.M)}
+    lines = [it for it in lines if not it.startswith("pub use ")]
     owner, i = "", 0
     while i < len(lines):
         line = lines[i]
@@ -60,6 +80,11 @@ def items_of_source(text: str) -> Items:
             i = last + 1
             while lines[last].endswith("{") and i < len(lines) and lines[i] != f"{indent}}}":
                 i += 1
+        elif re.match(r"\s*#\[derive", line):
+            # What a type derives, up to the type's own line.
+            last = next(at for at in range(i, len(lines)) if re.search(r"\b(?:struct|enum|union) \w", lines[at]))
+            found[f"derives {squeezed([lines[last]])}"] = squeezed(lines[i:last])
+            i = last - 1
         elif OWNER.match(line):
             owner = line
         elif item := ITEM.match(line.strip()):
@@ -74,13 +99,13 @@ def items_of_source(text: str) -> Items:
 
 def items_of_specs(text: str) -> Items:
     """The definitions of a file of specs/, by their names."""
-    lines = [it for it in text.split("\n") if it.strip() and not re.match(r"\s*--|(?:unfoldable )?(?:pub )?use ", it)]
+    lines = [it for it in text.split("\n") if it.strip() and not re.match(r"\s*--|use ", it)]
     found: dict[str, list[str]] = {}
     name = ""
     for line in lines:
         name = DEFINITION.match(line)[1] if DEFINITION.match(line) and line[0] != " " else name
         found.setdefault(name, []).append(line)
-    return {name: squeezed(its) for name, its in found.items()}
+    return imports(text, "use ") | {name: squeezed(its) for name, its in found.items()}
 
 
 def items_of(crate: str, file: str, text: str) -> Items:
@@ -115,11 +140,13 @@ def main() -> int:
         count += len(new)
         for name in sorted(old.keys() | new.keys()):
             if old.get(name) != new.get(name):
+                if IMPORT in name and (name not in old or name not in new):
+                    continue
                 is_private = ": private " in name
                 how = "new" if name not in old else "gone" if name not in new else "changed"
                 print(f"{'private, ' if is_private else ''}{how}: {name}", *(f"    {it[name]}" for it in (old, new) if name in it), sep="\n")
                 changed += not is_private
-    print(f"{count} heads, clauses and definitions; {changed} of them are not as at {commit}")
+    print(f"{count} heads, types, definitions and imports; {changed} of them are not as at {commit}")
     return 1 if changed else 0
 
 

@@ -1,5 +1,6 @@
 #!/usr/bin/env python3
-"""Checks how promises.py reads contracts, makes the page and finds what lacks, with a made crate. It takes a second."""
+"""Checks how promises.py reads contracts, makes the page and finds what lacks, and which changes same_promises.py sees, with a made crate. It takes a
+second."""
 
 from __future__ import annotations
 
@@ -11,6 +12,7 @@ from pathlib import Path
 
 from checks import check, ended
 from contracts import Breaks, Text, breaks, broken, first_sentence
+from same_promises import items_of_source, items_of_specs
 
 TESTS = Path(__file__).resolve().parent
 
@@ -217,8 +219,57 @@ def check_lines() -> None:
     check("one sentence alone", first_sentence("the first one") == "the first one")
 
 
+SOURCE = """ghost use Rattle.a.specs.Words.{long};
+
+/// A word.
+#[derive(Clone)]
+pub struct Word {
+    pub len: usize,
+}
+
+impl Word {
+    // Whether it is long.
+    pub fn is_long(&self) -> bool
+        ensures value { result ≡ long self.now }
+    {
+        self.len > LIMIT
+    }
+
+    fn limit(&self) -> usize {
+        LIMIT
+    }
+}
+"""
+SPECS = "use Rattle.a.specs.Limits.{limit}\n\n-- long words\nabbrev pub long : Word → Bool\nlong w = limit < w.len\n"
+
+
+def check_changes() -> None:
+    """Which changes of a file are changes of what it promises."""
+    for title, old, new, counts in (
+        ("a clause", "long self.now }", "long self.now || b }", 1),
+        ("the name of a clause", "ensures value", "ensures same", 1),
+        ("the head of a function", "-> bool", "-> u8", 1),
+        ("a private function", "-> usize {", "-> u32 {", 1),
+        ("a field", "pub len: usize", "pub len: u8", 1),
+        ("what a type derives", "derive(Clone)", "derive(Clone, Copy)", 1),
+        ("where a name comes from", "specs.Words", "specs.Others", 1),
+        ("a body", "self.len > LIMIT", "self.len >= LIMIT", 0),
+        ("a comment", "// Whether it is long.", "// Whether this word is long.", 0),
+    ):
+        before, now = items_of_source(SOURCE), items_of_source(SOURCE.replace(old, new, 1))
+        check(f"changed: {title}", sum(before.get(it) != now.get(it) for it in before.keys() | now.keys()) == counts, before, now)
+    for title, old, new, counts in (
+        ("a definition", "limit < w.len", "w.len < limit", 1),
+        ("where its name comes from", "specs.Limits", "specs.Others", 1),
+        ("its comment", "-- long words", "-- words that are long", 0),
+    ):
+        before, now = items_of_specs(SPECS), items_of_specs(SPECS.replace(old, new, 1))
+        check(f"changed: {title}", sum(before.get(it) != now.get(it) for it in before.keys() | now.keys()) == counts, before, now)
+
+
 def main() -> int:
     check_lines()
+    check_changes()
     with tempfile.TemporaryDirectory(prefix="promises-") as room:
         made(Path(room))
         check_page(Path(room))

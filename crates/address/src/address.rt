@@ -5,7 +5,7 @@ ghost use Rattle.address.specs.Address.{HasPort, HasNoColon, IsAddress, IsBracke
 use rmt_wire::argument::number_of;
 use rmt_wire::find_byte;
 
-/// What an address of a Unix socket begins with.
+/// The beginning of each address of a Unix socket.
 const UNIX: &str = "unix:";
 
 /// The greatest length in bytes of the path of a Unix socket (unix(7)).

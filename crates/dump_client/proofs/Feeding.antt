@@ -1,4 +1,4 @@
--- What comes of a piece, and what the look finds, by what all the bytes are that came since the request.
+-- The outcome of a piece, and the finding of the look, follow from all the bytes that came since the request.
 use Rattle.std.proofs.Common.{◌≡◌, ℕ, Bool, true, false, List, [], ◌++◌, refl, sym, ◌∙◌, subst, Some, None, Result, Ok, Err, ◌∷◌, Option}
 use Rattle.rmt_wire.specs.ReplyReader.{ReplyUnread}
 use Rattle.rmt_wire.specs.ReplyParts.{ReplyParsesAs}

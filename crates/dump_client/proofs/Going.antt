@@ -1,4 +1,4 @@
--- What bytes and the end of a connection make of a client: each law of such a step is a part of one row.
+-- Bytes, and the end of a connection, change a client by one row (`Changes`). Each law of such a step is a part of this row.
 use Rattle.std.proofs.Common.{◌≡◌, ℕ, ◌<◌, true, if◌then◌else◌, bytes_eq, List, [], ◌∷◌, Some, None, refl, sym, ap, subst, ◌≢◌, ◌⊎◌, ◌≤◌, length, arith, Bool, false, ◌++◌, Ok, Err, ◌∙◌, inl, inr}
 use Rattle.std.proofs.lemmas.Slice.Eq.{bytes_eq-Decides}
 use Rattle.std.proofs.lemmas.List.{append-nil}

@@ -1,4 +1,4 @@
--- What was sent before a step is what the script has before it, and the replies that led there are those that it wants.
+-- The client has sent the requests that the script has before a step, and the replies that led to the step are the wanted ones.
 use Rattle.std.proofs.Common.{◌≡◌, ℕ, List, refl, ◌+◌, ◌-◌, ◌≤◌, suc, inl, inr, [], ◌∷◌, ◌++◌, length, map, take, sym, ◌∙◌, ap, subst, arith, length-append, ◌⊎◌, ◌<◌, append_assoc}
 use Rattle.std.proofs.lemmas.List.{map-append, append-nil}
 use Rattle.std.proofs.Math.Seq.{take-append_seam}

@@ -1,4 +1,4 @@
--- What is heard at a step does it, shows the reel's end, or fails the attempt: one table, and what holds at the close.
+-- A reply completes a step, shows the reel's end, or fails the attempt: one table, and the facts at the close.
 use Rattle.std.proofs.Common.{◌≡◌, ℕ, ◌<◌, ◌==◌, Bool, true, false, if◌then◌else◌, nat_lt, refl, arith, List, Option, Some, None, sym, ap, subst, ◌≢◌, ◌+◌}
 use Rattle.std.proofs.lemmas.Bool.Decides.{nat_tests}
 use Rattle.rmt_wire.specs.declared.errno.TheConstants.{ENOSPC}

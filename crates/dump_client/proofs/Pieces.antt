@@ -1,4 +1,4 @@
--- What comes of bytes is the same however they are cut; a fault of bytes is one of all that begin with them.
+-- The outcome of bytes does not depend on how they are cut. A fault of bytes is a fault of all bytes that begin with them.
 use Rattle.std.proofs.Common.{◌≡◌, ◌⊎◌, inl, inr, ℕ, List, [], ◌∷◌, ◌++◌, Some, Err, refl, sym, ap, subst, ◌∙◌, append_assoc, ◌≢◌, Bool, true, false, Option, None, Result, Ok}
 use Rattle.rmt_wire.specs.Reply.{Wanted, SpellsReply}
 use Rattle.rmt_wire.specs.ReplyParts.{ReplyHasFault, ReplyHasNoSpelling, ReplyParsesAs}

@@ -1,4 +1,4 @@
--- What an outcome makes of a client, and what is unanswered then: told once for the crates above, which do not see outcomes.
+-- How an outcome changes a client, and which request is unanswered then. The crates above do not see outcomes, so they use these lemmas.
 use Rattle.std.proofs.Common.{◌≡◌, inl, inr, ℕ, Bool, true, false, List, [], refl, sym, ap, subst, None, ◌⊎◌, ◌+◌, ◌∷◌, arith}
 use Rattle.std.proofs.lemmas.Bool.Decides.{eqb_tells}
 use Rattle.rmt_wire.specs.ReplyReader.{ReplyUnread, reply_held}

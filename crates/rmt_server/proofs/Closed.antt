@@ -1,4 +1,4 @@
--- What a seat holds after its steps, and what closing does to the stacks.
+-- The drive that a seat holds after its steps, and the effect of closing on the stacks.
 use Rattle.std.proofs.Common.{◌≡◌, ◌≢◌, ◌⊎◌, ℕ, ◌<◌, ◌≤◌, false, IsTrue, length, slice_set, Option, Some, None, sym, ap, subst, ◌∙◌, inl, inr, arith}
 use Rattle.std.proofs.Common.{length-set, get_or-set_same, get_or-set_other}
 use Rattle.std.proofs.lemmas.List.{get_or_past}

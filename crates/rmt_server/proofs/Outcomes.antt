@@ -1,4 +1,4 @@
--- What a session did for a request, by its outcome: a check refused it, or one call was made.
+-- A session either refused a request by a check, or made one call for it.
 use Rattle.std.proofs.Common.{◌≡◌, ◌⊎◌, ℕ, Option, Some, None, MatchOption, Result, refl, sym, ap, subst, ◌∙◌, inl, inr}
 use Rattle.rmt_wire.specs.declared.mtio.TheConstants.{MTOFFL}
 use Rattle.rmt_server.proofs.Names.{PlainRequest, Close, Op, PlainReply, Done, TapeAnswer, ReelPromise, DriveFault, Kinds, Refusal, BadDescriptor}

@@ -1,4 +1,4 @@
--- What each request leaves: the session's drives, what is not its own, which devices can fail, and whether another seat holds a drive.
+-- The effect of each request on four things: the session's drives, other drives, the devices that can fail, and other seats that hold a drive.
 use Rattle.std.proofs.Common.{◌≡◌, ◌≢◌, ℕ, ◌<◌, ◌≤◌, Bool, true, false, IsTrue, List, Option, Some, None, Result, Ok, Err, refl, sym, ap, subst, ◌∙◌, inl, inr}
 use Rattle.std.proofs.Common.{arith}
 use Rattle.std.proofs.lemmas.Grind.{common_steps}

@@ -1,4 +1,4 @@
--- What a reader of requests gives is what the bytes begin with, and nothing else: a stream is read in one way.
+-- A reader of requests returns exactly the request that the bytes begin with. So a stream is read in one way.
 use Rattle.std.proofs.Common.{◌≡◌, ℕ, ◌<◌, List, ◌++◌, Some, None, Ok, Err, ◌≢◌, [], ◌∷◌, length, Option, Result, refl, sym, ap, subst, ◌∙◌, arith, ⊎_elim, zero, suc, ◌⊎◌, inl, inr}
 use Rattle.std.proofs.lemmas.List.{length-append}
 use Rattle.rmt_wire.proofs.Words.{PlainRequest, SpellsRequest, HasFault, ParsesAs, Spelled, Parts, EndsInNumber, EndsInFullLine, IsCause, IsRequestPrefix, Parsed, READER_LIMIT, taken_of, WireFault, line_feed, UnknownCommand, BadNumber, LineTooLong, NotAReply, TooMuchData}

@@ -1,4 +1,4 @@
--- What is seen at the front of bytes, and what a reader gives of them, whatever the grammar.
+-- Facts about any grammar: how the front of bytes is read, and the results that a reader can return.
 use Rattle.std.proofs.Common.{◌≡◌, ℕ, List, [], ◌∷◌, ◌++◌, length, drop, Some, None, Ok, Err, refl, sym, ap, subst, ◌∙◌, append_assoc, append-nil, ⊎_elim}
 use Rattle.std.proofs.lemmas.List.{drop_at}
 use Rattle.rmt_wire.proofs.Words.{Parsed, after, WireFault}

@@ -1,4 +1,4 @@
--- What bytes begin with in the grammar of requests.
+-- The grammar of requests: how the front of bytes is read.
 use Rattle.std.proofs.Common.{◌≡◌, ℕ, suc, ◌+◌, ◌-◌, ◌<◌, ◌≤◌, Bool, true, false, ltb, eqb, List, [], ◌∷◌, ◌++◌, length, take, drop, replicate, Some, None, Ok, Err, refl, sym, ap, subst, ◌∙◌, arith, append_assoc, ⊎_elim, inl, inr, ◌⊎◌}
 use Rattle.std.proofs.lemmas.Bool.{cases_lt}
 use Rattle.std.proofs.lemmas.Bool.Decides.{nat_tests}

@@ -1,4 +1,4 @@
--- What a writer writes spells its reply or its request, and so does a text that it writes in two parts.
+-- The bytes of a writer spell its reply or its request, also if the writer writes them in two parts.
 use Rattle.std.proofs.Common.{min, ◌≡◌, ℕ, ◌^◌, ◌<◌, ◌≤◌, List, [], ◌∷◌, ◌++◌, length, length-append, take, decimal, refl, sym, ap, subst, ◌∙◌, arith, append_assoc, append-nil, inl, zero, suc, ◌+◌, Option, Result, Ok, Err, OnErr}
 use Rattle.std.proofs.lemmas.Fmt.{decimal_is_IsNumeral, length-decimal-le}
 use Rattle.std.proofs.lemmas.List.{take-append-le, take_min, take_all, nil_from_length}

@@ -172,7 +172,7 @@ found_faultless g h drive w u k c l d b s step (Ok (Some request)) bytes rest ke
     }
 
 module _ (drive : PlainDriveSpec) (w : World) (k : ℕ) (s : ServerConnection) (l : Connection) where
-  -- What may be unserved on a connection: nothing is, or it is the client's own, whose request was not carried out.
+  -- A connection has no unserved bytes, unless it is the client's own and its request was not carried out yet.
   pub data Unserved : Type 0 where
     none_left : AreUnserved (Some s) l.toward [] → Unserved
     one_left : (c : WorldClient) (step : Step) (d : AttemptState) (b : Begun) → w.caller ≡ Some c → c.at.stage ≡ Waiting step → IsOwnConnection w k l d b s

@@ -1,6 +1,6 @@
 -- Reels of a stack by their places, and the reels of counts.
 -- A request that is carried out takes no reel from the bin: MTOFFL lays one after the others, and all else leaves it.
--- What one request does at the only drive, where no device call fails.
+-- The effect of one request at the only drive, if no device call fails.
 use Rattle.world_model.proofs.Basics.{◌≡◌, ℕ, zero, suc, ◌==◌, if◌then◌else◌, Bool, true, false, inl, inr, List, [], ◌∷◌, ◌++◌, length, length-append, map, take, drop, Some, Contains, refl, sym, ap, ◌∙◌, arith, slice_get, ◌+◌, get_or, Contains-append_right, Contains-append_cases, Contains-push_cases, eqb_tells, Option, None, Ok, Err, MatchOption, append-nil, ◌⊎◌, ◌<◌, ◌≤◌}
 use Rattle.world_model.proofs.Terms.{Record, names_of, Begun, Count, Opening, opening, reel_opened_by, block_records, volume_slot, Trouble, PlainRequest, Write, WriteDropped, Read, Op, PlainReply, KeptReel, ReelSlot, TapeLibrary, SessionView, status_of, refusal, closed, TroubledServeStep, TroubledReelStep, TroubledMoveStep, TroubledOpStep, is_offline, PlainEntry, Tape, tape, offset_of, RECORD_LIMIT, NoTrouble, Done, Data, Error, ENOENT, ENOMEM, ENXIO, O_RDWR, MTOFFL, MTWEOF, kept_reel, slot, waiting_reel, after_latch, Both, PlainReel, plain_reel, session_view, Idle, Offline, Online, label_bytes, PlainDriveSpec, blanks, one_drive}
 use Rattle.rmt_wire.specs.Request.PlainRequest.{Open, Close}

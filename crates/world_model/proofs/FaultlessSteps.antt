@@ -1,4 +1,4 @@
--- Where the reply to each request of an attempt leads, on a link without faults.
+-- The next step of an attempt after the reply to each request, on a connection without faults.
 -- Each request of an attempt, carried out at the only drive without a fault.
 use Rattle.world_model.proofs.Basics.{◌≡◌, ◌⊎◌, ℕ, suc, ◌+◌, ◌≤◌, nat_lt, if◌then◌else◌, true, false, List, [], ◌∷◌, ◌++◌, length, append_assoc, Option, Some, None, Contains, refl, sym, ap, subst, ◌∙◌, arith, get_or, append-nil, sum_by-append, ◌<◌, length-append, option_map, option_to_list, inl, inr, length-replicate, Contains-append_left, Contains-push}
 use Rattle.world_model.proofs.Terms.{PlainEntry, tape, offset_of, size_of, Record, TapeMark, raised, OpenDevice, Write, Read, Op, CloseDevice, PlainReply, Done, Data, O_RDWR, MTOFFL, MTWEOF, kept_reel, slot, TapeLibrary, Both, ServerConnection, plain_reel, PlainSession, SessionView, session_view, Idle, Offline, Online, PlainRun, IsRun, label, label_bytes, counted_label, Standing, standing, checkpoint_of, counted_to, Open, Operation, Look, Block, Close, Mark, Unload, Stage, ToSend, Progress, VolumeCount, AttemptState, Begun, Opening, PlainDriveSpec, opening, noted, HasDone, attempt_written, whole_volume, Stock, blanks, one_drive, volume_slots, names_left, IsLatched, IsOffline, StandsThen, CountsThen, Leads, attempt_on, NoTrouble, PlainRequest, drive_at, drive_in, TroubledServe, TroubledServeStep, IsLawful, attempt_at, Step, Label, Rewind, RewindAgain, opened_reel, written_reel, first_name, request_in, StandsBefore}

@@ -1,4 +1,4 @@
--- What a change of the hall makes of what stands on reels.
+-- How a change of the server's state changes the contents of reels.
 -- What each event makes of reels, attempts and counts.
 use Rattle.world_model.proofs.Basics.{◌≡◌, ◌⊎◌, ℕ, List, Some, None, refl, sym, ap, subst, ◌∙◌, inl, inr, slice_index_or, same_Some, arith, ◌<◌, ◌≤◌, false, [], ◌∷◌, ◌++◌, length, length-append, map, Option, length-map}
 use Rattle.world_model.proofs.Terms.{PlainRequest, PlainReply, PlainEntry, Trouble, KeptReel, Drive, TapeLibrary, drive_at, arranged, ServerState, server, ServerConnection, PlainSession, session_view, closed_library, TroubledServeStep, side_of, ended_from, first_name, online_drive_in, AreHeld, ReelLiesOn, HasInDrive, ReelHolds, RequestHeld, held, side, Idle, World, Connection, AttemptState, Begun, numbered, with_numbered, changed, with_side, new_connection, without_peer, without_server, sent_connection}

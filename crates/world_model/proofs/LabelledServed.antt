@@ -1,5 +1,5 @@
 -- A write of an attempt's own session: it is accepted, or it changes nothing, or a device fault is answered.
--- What an attempt wrote stands on its reel, when a request of its own is carried out.
+-- The entries that an attempt wrote are on its reel after a request of its own was carried out.
 use Rattle.world_model.proofs.Basics.{◌≡◌, ℕ, suc, ◌==◌, ◌||◌, Bool, true, false, if◌then◌else◌, nat_lt, List, [], ◌∷◌, ◌++◌, length, Some, None, MatchOption, refl, ap, subst, inl, inr, arith, ◌+◌, ◌^◌, ◌<◌, get_or, option_map, sym, ◌∙◌, option_to_list, append-nil}
 use Rattle.world_model.proofs.Terms.{PlainRequest, Write, Op, PlainReply, Done, PlainEntry, Tape, tape, TapeAnswer, RECORD_LIMIT, MTWEOF, Record, Did, Fault, DeviceStep, Trouble, refused, tape_refusal, Both, PlainReel, SessionView, tape_request, reel_reply, Online, TroubledServeStep, TroubledDoneStep, AttemptState, noted_by, raised, entries_of, TapeLibrary, drive_at, EachReelOnce, ServerState, server, side, plain_reel, session_view, PlainRun, label, steps_before, Step, Open, Operation, Look, Label, Block, Close, Rewind, RewindAgain, MarkTape, Unload, World, Connection, Begun, numbered, with_numbered, side_of, first_name, written_reel, opening, opened_reel, noted, AreHeld, AreLaid, block_records, AreOpened, HasDone, request_in, IsGood, AreTold, attempt_written, IsAlone, IsQuiet, IsReelWritten, IsLabelled, AreLabelled, IsSingle, AreSingle}
 use Rattle.tape.specs.Tape.PlainEntry.{Mark}
@@ -10,7 +10,7 @@ use Rattle.world_model.proofs.Opened.{writings_after}
 use Rattle.world_model.proofs.LabelledNames.{stands_one}
 use Rattle.tape.specs.declared.fault.TapeFault.TheVariants as faults
 
--- What comes of a write of these entries: they stand at the place, and nothing after them; or nothing was changed, nor noted; or
+-- The outcome of a write of these entries: they are at the place, and nothing after them; or nothing was changed, nor noted; or
 -- a device fault was noted.
 pub data Puts (before after : SessionView) (drive : ℕ) (reel : PlainReel) (entries : List PlainEntry) (request : PlainRequest) (reply : PlainReply) : Type 0 where
   puts : (n : ℕ) → reply ≡ Done (suc n) → IsLeftWith before after drive reel (tape (reel.tape.before ++ entries) []) → Puts before after drive reel entries request reply

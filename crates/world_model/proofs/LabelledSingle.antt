@@ -1,6 +1,6 @@
--- What a request that is carried out makes of attempts and of their openings.
+-- How a request that is carried out changes attempts and their openings.
 -- A connection of the client's has one opening at most, whatever happens.
--- What an attempt wrote stands on its reel, when its own request is carried out once the mark was accepted.
+-- The entries that an attempt wrote are on its reel when its own request is carried out after the mark was accepted.
 use Rattle.world_model.proofs.Basics.{◌≡◌, ◌≢◌, ◌⊎◌, ℕ, ◌+◌, ◌^◌, ◌<◌, ◌≤◌, true, option_map, Some, Contains, refl, sym, ap, subst, ◌∙◌, inl, inr, arith, Contains-append_left, suc, Bool, false, List, ◌++◌, length, Option, None, option_to_list, append-nil, same_Some}
 use Rattle.world_model.proofs.Terms.{Step, World, Connection, AttemptState, Begun, Count, Opening, numbered, connection_of, opening, noted, answered, HasDone, request_in, IsConnectionSent, AreTold, IsEarnedBy, EachCountHasAttempt, raised, PlainRequest, PlainReply, TapeLibrary, drive_at, ServerConnection, PlainSession, Open, Label, opened_reel, written_reel, first_name, AreOpened, IsSessionBefore, IsSingle, AreSingle, ServerState, server, side, PlainEntry, with_numbered, AreHeld, ReelHolds, attempt_written, IsReelWritten}
 use Rattle.world_model.proofs.Ground.{changed_is, changed_there, pushed_is, raised_one, OneReading, DroppedWrites, nothing_there, serve_pending, noted_same, Turn, turned, mapped, among_at, place_of, Sits}

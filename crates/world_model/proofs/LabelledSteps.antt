@@ -1,5 +1,5 @@
--- Where what stands on a reel stood before, whatever happens.
--- What one request makes of what stands on reels.
+-- If a reel has these contents after a change of the library, a reel of this name had them before.
+-- How one request changes the contents of reels.
 use Rattle.world_model.proofs.Basics.{◌≡◌, ◌⊎◌, ℕ, suc, Bool, true, false, cond, List, [], ◌∷◌, ◌++◌, take, drop, Option, Some, None, refl, sym, subst, inl, inr, slice_set, slice_index_or, find, cons_option, remove_key, bytes_eq, same_Some, arith, ap, ◌∙◌, ◌<◌, length, append_assoc, Ok, Err, MatchOption, take-append-drop}
 use Rattle.world_model.proofs.Terms.{PlainEntry, entries_of, KeptReel, kept_reel, ReelSlot, Drive, drive_with, TapeLibrary, library, drive_at, with_first, to_bin, first_reel, after_latch, arranged, picked, left, slot_named, without, pile_of, PlainSession, closed_library, Idle, Offline, Online, first_name, IsReelOf, ReelLiesIn, ReelLiesOn, HasInDrive, PlainRequest, Write, Op, PlainReply, Tape, tape, TapeRequest, TapeAnswer, WriteRecord, WriteMarks, DeviceStep, Trouble, NoSuchDrive, Busy, NoReel, Device, after_offline, waiting_reel, Access, access_of, writes, refused, PlainReel, plain_reel, SessionView, session_view, status_of, refusal, tape_request, closed, is_offline, TroubledServeStep, TroubledOpenStep, TroubledReelStep, TroubledMoveStep, TroubledOpStep, TroubledDoneStep, written_reel, write_refusal}
 use Rattle.rmt_wire.specs.Request.PlainRequest.{Open, Close}
@@ -155,7 +155,7 @@ StandsIn v name entries = ReelLiesOn v.library name entries ⊎ HasInDrive v.lib
 abbrev pub WritesOn : SessionView → PlainRequest → List ℕ → Type 0
 WritesOn before request name = (is_write (tape_request request) ≡ true) × (written_reel before.library before.session ≡ Some name)
 
--- What stands on a reel after the request stood there before, or the request wrote on it.
+-- The contents of a reel after the request were there before, or the request wrote on the reel.
 abbrev pub Stood : SessionView → PlainRequest → SessionView → Type 0
 Stood before request after =
     (name : List ℕ) (entries : List PlainEntry) → StandsIn after name entries → StandsIn before name entries ⊎ WritesOn before request name

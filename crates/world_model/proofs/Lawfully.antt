@@ -1,5 +1,5 @@
 -- The client stays lawful, whatever happens.
--- Where counts come from.
+-- How the counts of the history grow at an event.
 use Rattle.world_model.proofs.Basics.{◌≡◌, ℕ, List, take, Some, refl, subst, inl, same_Some, arith}
 use Rattle.world_model.proofs.Terms.{PlainRun, IsRun, AreVolumes, VolumeCount, IsLawful, StageFits, Standing, standing, FedAt, CutAt, IsOver, stage_after, Answer, Retry, Abandon, Progress, Stage, Ready, ToSend, Waiting, Asking, Open, Block, World, WorldClient, AreBooked, IsClientLawful, PlainEvent, CountsGrow, Happens}
 use Rattle.world_model.proofs.Ground.{Move, begins, connects, asks, fails, hears, hears_last, sees, Back, gone, comes, back_caller, forgets, gives_up, answers, moved, Goings, drop_front}

@@ -1,5 +1,5 @@
 -- While no foreign session opened the reel of a count since, no session but the count's own wrote on it.
--- What spares a count: a reel that nobody opened since, and the client's own later attempts.
+-- A counted reel is not reopened if nobody opened it since, or only the client's own later attempts did.
 use Rattle.world_model.proofs.Basics.{◌≡◌, ℕ, ◌≤◌, length, take, Some, Contains, sym, ap, ◌∙◌, inl, inr, arith, eqb_tells, same_Some, List, subst}
 use Rattle.world_model.proofs.Terms.{World, AttemptState, Count, Opening, Writing, numbered, opening, HasDump, IsNotReopened, IsUnopenedSince, AreWritersLast, AreTold, AreLateWriters, AreStopped, IsAtStep, Step, Stage, Connection, Begun, WorldClient, side_of, IsAlone, IsConnectionToldAt, OwnOpens, IsWorldKept}
 use Rattle.world_model.proofs.Numbers.{less_or_more, numbered_within, numbered_there, numbered_first}

@@ -1,4 +1,4 @@
--- What keeps reels of counts spared, when the server carries a request out.
+-- The statement `AreNotReopened` stays true when the server carries out a request.
 -- The client goes on past the look only where the reel is that of no spared count, also when the look is answered.
 use Rattle.world_model.proofs.Basics.{◌≡◌, ◌⊎◌, ℕ, ◌+◌, ◌<◌, ◌≤◌, List, ◌++◌, length, Option, Some, Contains, refl, sym, ap, subst, ◌∙◌, inl, inr, arith, option_to_list, option_map, append-nil, same_Some, ◌≢◌, IsTrue, Bool, false, [], None}
 use Rattle.world_model.proofs.Terms.{TapeLibrary, PlainSession, VolumeCount, Step, World, Connection, AttemptState, Begun, Count, Opening, Writing, numbered, HasDump, opening, opened_reel, list_in, writing, reel_written, noted, IsNotReopened, AreSingle, EachCountHasAttempt, request_in, AreTold, looked_requests, HasOpenedSince, AreLateWriters, AreStopped, AreListedNow, PlainReply, SpellsReply, reply_text, Data, Error, DataUpTo, ServerConnection, session_view, TroubledServeStep, PlainRun, label_bytes, counted_label, wanted_of, Reply, Standing, ReceivesAt, FedAt, IsAtStep, HasFedAt, Operation, Look, RewindAgain, Stage, ToSend, Waiting, Progress, WorldClient, side_of, connection_of, sent_on, answered, IsClientLawful, is_in_attempt, IsOwned, IsSessionBefore, FitsReplyReader, IsAttempt, IsStepAsked, IsStepReplied, IsConnectionToldAt, HasLooked}

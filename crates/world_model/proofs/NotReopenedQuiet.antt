@@ -1,6 +1,6 @@
--- What is spared after an event was so before it.
+-- A count whose reel is not reopened after an event was so before the event.
 -- What keeps reels of counts spared, after an event that neither sends, nor hears, nor carries out a request.
--- What keeps reels of counts spared, when the client sends its next request.
+-- The statement `AreNotReopened` stays true when the client sends its next request.
 use Rattle.world_model.proofs.Basics.{◌≡◌, ℕ, ◌≤◌, List, [], ◌∷◌, ◌++◌, length, Some, Contains, refl, sym, ap, ◌∙◌, inl, inr, arith, ◌+◌, None, subst, same_Some, ◌≢◌, ◌⊎◌}
 use Rattle.world_model.proofs.Terms.{VolumeCount, World, Connection, AttemptState, Count, Opening, Writing, numbered, changed, opening, HasDump, IsNotReopened, AreOpened, AreWritersLast, HasOpenedSince, FedAt, WorldClient, connection_of, new_connection, IsOwned, looked_requests, AreLateWriters, AreStopped, AreNotReopened, client_connected, fresh, wanted_of, Standing, standing, IsAtStep, HasFedAt, Operation, RewindAgain, ToSend, Waiting, Progress, Begun, side_of, noted_sent, IsAttempt, IsItsTurn, IsConnectionToldAt, AreTold, caller, next_text, sent_connection}
 use Rattle.world_model.proofs.Ground.{among_at, changed_is, pushed_is, numbered_within, one_heard, mapped, Sender, asks, moved}

@@ -1,5 +1,5 @@
 -- What a request of a session meets, and that it touches no drive that another has open.
--- Where an MTOFFL of an attempt is done, its volume lies in the bin whole.
+-- If an MTOFFL of an attempt was carried out, its volume lies whole in the bin.
 use Rattle.world_model.proofs.Basics.{◌≡◌, ◌⊎◌, ℕ, Bool, true, false, List, [], ◌++◌, take, drop, Option, Some, None, Ok, Err, MatchOption, refl, sym, ap, subst, ◌∙◌, inl, inr, slice_get, slice_set, append-nil, set-set, set-get_or, same_Some, get_or_from_slice_get, arith, ◌∷◌}
 use Rattle.world_model.proofs.Terms.{PlainRequest, Op, PlainReply, Trouble, entries_of, TapeLibrary, library, KeptReel, kept_reel, ReelSlot, Drive, drive_with, drive_at, with_first, at_first, Access, access_of, refused, ServerState, server, ServerConnection, side, PlainSession, SessionView, session_view, status_of, check, closed, closed_library, is_offline, NothingOpen, Idle, Offline, Online, drive_in, with_holder, holder_of, TroubledServeStep, TroubledOpenStep, TroubledReelStep, TroubledMoveStep, TroubledOpStep, TroubledDoneStep, World, Connection, AttemptState, with_numbered, Serve, side_of, connection_of, AreHeld, Happens, IsConnectionSent, AreTold, ServerTurn, IsNextSent, is_open, undone, undone_holders, Refuses, IsRefused, ChangesAt, Meets, own, free, OthersStay, Done, MTOFFL, after_offline, Both, PlainReel, Step, Operation, Rewind, RewindAgain, Mark, Unload, Begun, first_name, written_reel, opening, IsWorldKept, HasDone, request_in, whole_volume, IsReelWritten, IsWholeInBin, IsMoveDone, slot, IsFirstAway, online_drive_in}
 use Rattle.rmt_wire.specs.Request.PlainRequest.{Open, Close}

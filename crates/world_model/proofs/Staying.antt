@@ -1,5 +1,5 @@
--- What keeps reels of counts spared, whatever happens.
--- What stays so, in the first world and after each event.
+-- The statement `AreNotReopened` stays true, whatever happens.
+-- The facts that hold in the first world and after each event.
 use Rattle.world_model.proofs.Basics.{◌≡◌, List, None, refl, arith, ℕ, zero, suc, [], ◌∷◌, length, map, replicate, Contains, Some, sym, ap, subst, ◌∙◌, inl, inr, slice_get, slice_index_or, eqb_tells, length-map, length-replicate, same_Some, length-append}
 use Rattle.world_model.proofs.Terms.{World, PlainDriveSpec, first_world, without_server, without_peer, new_connection, AreSingle, EachCountHasAttempt, IsClientLawful, IsOwned, AreTold, AreNotReopened, kept_reel, slot, drive_with, PlainEvent, AreGoodDrives, blank_drive, Happens, Runs, none, one_more, AreThere, IsWorldKept, NoTwoHolders, DumpdatesGained, Headline, CountedReels, SentRequests, LatchedReels, ClientsCounts, ReelsNotReopened, LabelledReels, SameNames}
 use Rattle.world_model.proofs.Ground.{OneReading, DroppedWrites, OneReply, talked, talked_dump, Turn, Move, begins, connects, asks, fails, reaches, cuts, talks, hears, hears_last, sees, forgets, gives_up, answers, moved, turned, happened, no_number, Standings, owned_moved, tidy_moved, held_moved, Goings, booked_moved, readable_moved, map_at}
@@ -25,7 +25,7 @@ first_not_reopened drives = record {
   looked = λ k l c fed progress new x own on there had feeds goes counted not_reopened since. absurd cc;
 }
 
--- What holds after the event, as far as this rests on it.
+-- The facts about the world after the event that the proof needs.
 pub record After (u : World) : Type 0 where
   pub owned : IsOwned u
   pub told : AreTold u
@@ -148,7 +148,7 @@ first_kept drives good = record {
   readable = λ k s at. absurd (no_number k (Some s) (side_there (first_world drives).server k s at));
 }
 
--- What other crates say of a client, and of requests and replies.
+-- The facts from other crates about a client, requests and replies.
 pub record Laws : Type 0 where
   pub goings : Goings
   pub lawfully : Lawfully

@@ -1,4 +1,4 @@
--- What a client can hear of bytes and of the end of a connection, and what readers can keep of bytes.
+-- A client can take any bytes and the end of a connection, and readers can keep any bytes.
 -- In a world where all is kept each possible event has a step.
 use Rattle.world_model.proofs.Basics.{◌≡◌, ◌⊎◌, IsTrue, ℕ, ◌<◌, ◌≤◌, false, List, [], ◌∷◌, ◌++◌, length, append_assoc, length-append, Option, Some, None, Result, Ok, Err, refl, ap, ◌∙◌, inl, inr, arith, take-append-drop, take-append-le, drop-append-le, Bool, true, take, drop, sym, subst}
 use Rattle.world_model.proofs.Terms.{line_feed, PlainReply, Wanted, ReplyParsesAs, reply_held, IsDroppedLine, RequestHeld, held, Unread, UnreadAt, WireFault, READER_LIMIT, wanted_of, IsReaderWaiting, is_more, Standing, FedAt, CutAt, Progress, Stage, ToSend, Waiting, Step, IsAtRest, outcome_can, is_in_attempt, PlainRequest, reply_text, ReplyHeld, ServerConnection, session_view, drive_in, with_holder, Trouble, HasFedAt, unanswered, over_can, World, Connection, AttemptState, WorldClient, Kept, PlainEvent, StartRun, Connect, Send, ToServer, Serve, ToClient, EndAtClient, ClientRestart, Respond, Arrange, Enter, Save, side_of, connection_of, IsWorldKept, Possible, IsConnectionToldAt, Happens, Sends, Finds, Hears, SeesEnd, ResumesRun, is_failing}
@@ -8,7 +8,7 @@ use Rattle.world_model.proofs.SentWire.{DroppedWrites, no_more_kept, brief_begin
 use Rattle.world_model.proofs.StepsServed.{serve_can}
 use Rattle.dump_client.specs.declared.stage.Progress.TheVariants as moved
 
--- Of the bytes since a reply was waited for a reader can give something.
+-- A reader can return a result for the bytes that came since it began to wait.
 abbrev pub SomeAnswer : Type 0
 SomeAnswer = (wanted : Option Wanted) (bytes : List ℕ)
     → (answer : Result (Option PlainReply) WireFault) × (rest : List ℕ) × ReplyParsesAs wanted bytes answer rest

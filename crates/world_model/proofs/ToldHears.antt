@@ -1,11 +1,11 @@
--- What a client makes of a reply, or of a piece of it: what is told of its connection then, and what it counts.
+-- How a reply, or a piece of it, changes a client: the facts about its connection then, and its count.
 use Rattle.world_model.proofs.Basics.{◌≡◌, ℕ, ◌+◌, false, List, [], ◌++◌, append_assoc, IsTrue, ◌⊎◌, ◌∷◌, map, Contains, Contains-push_cases, take, drop, Option, Some, None, Result, Ok, Err, sym, append-nil, take-append-drop, arith, ◌≢◌, ◌≤◌, length, length-append, refl, ap, subst, ◌∙◌, inl, inr, same_Some, take_at}
 use Rattle.world_model.proofs.Terms.{PlainReply, SpellsReply, reply_text, ReplyParsesAs, ReplyHeld, WireFault, wanted_of, Reply, Standing, ReceivesAt, FedAt, Makes, HasFedAt, Step, Progress, Waiting, FitsReplyReader, ServerConnection, checkpoint_of, attempt_at, unanswered, VolumeCount, Close, Stage, ToSend, HeardAs, World, Connection, AttemptState, Begun, WorldClient, side_of, caller, IsOwned, GoesTo, LeadsOn, IsStepReply, IsAttempt, IsStepReplied, IsConnectionToldAt, IsConnectionSettled, AreTold, is_in_attempt, heard_as, count_to, counts_of, Count}
 use Rattle.world_model.proofs.Ground.{OneReply, one_heard, brief_begins, reply_whole, reply_no_fault, changed_told, Listens, is_over, told_counts, drop_front}
 use Rattle.dump_client.specs.declared.stage.Progress.TheVariants as came
 use Rattle.world_model.proofs.Moves as move
 
--- Of these bytes, with these after them on the way: it waits on, or it heard the whole reply, and nothing is after that.
+-- Given these bytes, and those after them on the way: the client waits on, or it heard the whole reply and nothing comes after it.
 pub data HearsPiece (old : Standing) (step : Step) (reply : PlainReply) (bytes way : List ℕ) (progress : Progress) (new : Standing) : Type 0 where
   waits : progress ≡ came.Waiting → new ≡ old → reply_text reply ≡ bytes ++ way → HearsPiece old step reply bytes way progress new
   whole : SpellsReply bytes reply (wanted_of step) → way ≡ [] → ReceivesAt old step (Reply reply) false progress new → HearsPiece old step reply bytes way progress new

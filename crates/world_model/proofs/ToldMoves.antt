@@ -1,5 +1,5 @@
--- What is told of a connection stays so while its side, or what is on the way, is another.
--- What is told of each connection, whatever happens.
+-- The statement `AreTold` about a connection stays true if the server's side, or the bytes on the way, change.
+-- The statement `AreTold` about each connection stays true, whatever happens.
 use Rattle.world_model.proofs.Basics.{◌≡◌, ◌≢◌, ◌⊎◌, ℕ, suc, ◌≤◌, List, [], ◌∷◌, ◌++◌, length, append_assoc, take, drop, Option, Some, None, refl, sym, ap, subst, ◌∙◌, inl, inr, arith, option_and_then, take-append-drop, zero, true, option_map, eqb_tells, same_Some}
 use Rattle.world_model.proofs.Terms.{RequestHeld, held, Unread, ServerConnection, side, Idle, PlainRun, Standing, Step, Stage, ToSend, Waiting, PlainReply, World, Connection, AttemptState, Begun, WorldClient, numbered, changed, side_of, connection_of, new_connection, with_side, AreUnserved, IsPending, IsConnectionSettled, IsConnectionSent, LeadsOn, IsStepReply, IsConnectionToldAt, IsConnectionTold, IsGood, AreTold, ServerState, with_numbered, without_peer, without_server, ended_from, all_ended, answered, noted, AreTidy, IsPushed}
 use Rattle.world_model.proofs.Numbers.{changed_is, pushed_is, numbered_more, numbered_last, numbered_within, numbered_there, numbered_first, map_at, with_here, with_other}
