@@ -106,20 +106,22 @@ impl<R: Files<File = File>> Drop for NewFile<'_, R> {
 
 impl<'a, R: Files<File = File> + Clock> NewFile<'a, R> {
     /// Creates the new file for the file that this path names. While another run has one, it tries
-    /// again every five milliseconds for ten seconds. It removes a new file that a killed run left.
+    /// again every five milliseconds for ten seconds. It removes a new file that a killed run left,
+    /// and then tries at least once more, however long the removal took.
     ///
     /// Fails if a file that no run left has the name; that file stays. Fails with `TimedOut` if
     /// another run has the new file for ten seconds.
     pub(crate) fn make(rt: &'a R, alloc: Global, path: &str, form: Form) -> io::Result<Self> {
         let began = Instant::now(rt)?;
         for _ in 0..u64::MAX {
+            let is_last_try = began.elapsed(rt)?.as_secs() >= WAIT_SECONDS;
             if let Some(new) = NewFile::try_make(rt, alloc, path, form)? {
                 return Ok(new);
             }
-            remove_leftover(rt, alloc, path, form)?;
-            if began.elapsed(rt)?.as_secs() >= WAIT_SECONDS {
+            if is_last_try {
                 break;
             }
+            remove_leftover(rt, alloc, path, form)?;
             thread::sleep(rt, Duration::from_millis(BETWEEN_MILLIS));
         }
         let error = "its .new was locked for ten seconds";
