@@ -1,30 +1,20 @@
 -- What an operator's order of a stack leaves.
-use Rattle.std.proofs.Common.{◌≡◌, ◌≢◌, ℕ, ◌+◌, ◌-◌, ◌<◌, ◌≤◌, Bool, true, false, not, ◌&&◌, ◌||◌, IsTrue, List, [], ◌∷◌, ◌++◌, length, take, drop, map, flat_map, set, is_some, Option, Some, None, Result, Ok, Err, IfOk, IsSome, refl, sym, ap, ◌∙◌, subst, inl, inr, arith, get_or-set_other, one-add, get_or, cond, append_assoc, drop-cons, suc}
+use Rattle.std.proofs.Common.{◌≡◌, ℕ, ◌+◌, ◌-◌, ◌<◌, ◌≤◌, Bool, true, false, not, ◌&&◌, ◌||◌, IsTrue, List, [], ◌∷◌, ◌++◌, length, take, drop, map, flat_map, set, is_some, Option, Some, None, Result, Ok, Err, IfOk, IsSome, refl, sym, ap, ◌∙◌, subst, inl, inr, arith, one-add, get_or, cond, suc}
 use Rattle.std.proofs.Math.Numerals.{suc-eq-add-one}
-use Rattle.std.proofs.lemmas.List.{get_or-set_same, drop-map, drop-drop, take_all, length-drop}
-use Rattle.std.proofs.lemmas.List.Folds.{list_any-append}
-use Rattle.std.proofs.lemmas.List.Sums.{sum_by-append, sum_by-cons}
+use Rattle.drives.proofs.Names.{get_or-set_same, drop-map, drop-drop, take_all, length-drop, drop_more, list_any-append, list_all-map, find_at, find-append}
+use Rattle.drives.proofs.Names.{sum_by-append, sum_by-cons, bytes_eq-Decides, ltb-true, ltb-false, and_parts, or_parts, not-true, sum_by, list_any, list_all}
+use Rattle.drives.proofs.Names.{find, position_or_len, position_from, cons_option, option_map, option_or, bytes_eq, TroubledTape, ReelSlot, Drive, drive_with}
+use Rattle.drives.proofs.Names.{LibraryOf, library, drive_at, with_drive_at, slots_in, names_of, names_in, times, latched_at, latched_on, ListLibrary}
+use Rattle.drives.proofs.Names.{with_library, is_set_in, StacksCanFail, IsStocked, slot_named, without, picked, left, pile_of, arranged, is_repeated}
+use Rattle.drives.proofs.Names.{are_distinct, is_among, is_piled, may_arrange, IsArranged, DriveFault, OutOfMemory}
 use Rattle.std.proofs.lemmas.Map.Made.{sum_by-remove_key}
-use Rattle.std.proofs.lemmas.Slice.Eq.{bytes_eq-Decides}
 use Rattle.std.proofs.Math.Dec.{ltb}
-use Rattle.std.proofs.lemmas.Bool.{ltb-true, ltb-false}
 use Rattle.std.proofs.lemmas.Iterator.Adapters.{position_from-zero}
-use Rattle.std.proofs.lemmas.List.Folds.{find_at, find-append}
 use Rattle.std.proofs.lemmas.Option.{cond_some, slice_get-get_or, slice_get_past}
-use Rattle.std.specs.List.{sum_by, list_any, list_all, find, position_or_len, position_from, cons_option}
-use Rattle.std.specs.Option.{option_map, option_or}
 use Rattle.std.specs.Prelude.{unwrap_or}
 use Rattle.std.specs.Set.{remove_key}
-use Rattle.std.specs.Str.{bytes_eq}
-use Rattle.tape.specs.Trouble.{TroubledTape}
-use Rattle.drives.specs.TapeLibrary.{ReelSlot, Drive, drive_with, LibraryOf, TapeLibrary, library, drive_at, with_drive_at, slots_in, names_of, names_in, times, EachReelOnce, latched_at, latched_on, away_name}
-use Rattle.drives.specs.ListLibrary.{ListLibrary, with_library, at_rest, rest_slot, library_of, IsLibrary, is_set_in, StacksCanFail, IsStocked}
-use Rattle.drives.specs.Arranging.{slot_named, without, picked, left, pile_of, arranged, is_repeated, are_distinct, is_among, is_piled, may_arrange, IsArranged}
-use Rattle.drives.specs.Stacking.{HasLatched}
-use Rattle.drives.specs.declared.fault.DriveFault.{DriveFault}
-use Rattle.drives.specs.declared.fault.DriveFault.TheVariants.{NoSuchDrive, Busy, NoReel, Device, OutOfMemory, NameTaken}
-use Rattle.drives.proofs.Shops.{bit, named, times_named, length_sum, sum_by_slots, sum_by_with_drive}
-use Rattle.drives.proofs.ListLibrary.{told, drive_at_rest, read_at, stocked_same}
+use Rattle.drives.proofs.Shops.{bit, KeepsNames, times_kept, sum_by_slots, sum_by_with_drive}
+use Rattle.drives.proofs.ListLibrary.{read_at, stocked_kept}
 
 -- what is left where the first that passes is taken out by its place
 place_step : {X : Type 0} (p : X → Bool) (x : X) (xs : List X) (b : Bool) → p x ≡ b → remove_key p xs ≡ take (position_or_len p xs) xs ++ drop (suc (position_or_len p xs)) xs
@@ -61,14 +51,11 @@ sum_arranged f s d names l =
     omega (arith, a, b, c, m, n)
 
 -- no name comes or goes
+pub keeps_arranged : {X : Type 0} (s : LibraryOf X) (d : ℕ) (names : List (List ℕ)) → d < length s.drives → KeepsNames s (arranged s d names)
+keeps_arranged s d names l f = sum_arranged (λ x. f x.name) s d names l
+
 pub times_arranged : {X : Type 0} (s : LibraryOf X) (d : ℕ) (names : List (List ℕ)) → d < length s.drives → (name : List ℕ) → times name (names_in (arranged s d names)) ≡ times name (names_in s)
-times_arranged s d names l name = times_named name (slots_in (arranged s d names)) ∙ sum_arranged (named name) s d names l ∙ sym (times_named name (slots_in s))
-
-pub once_arranged : {X : Type 0} (s : LibraryOf X) (d : ℕ) (names : List (List ℕ)) → d < length s.drives → EachReelOnce s → EachReelOnce (arranged s d names)
-once_arranged s d names l once name = subst (λ n. n ≤ 1) (sym (times_arranged s d names l name)) (once name)
-
-pub length_arranged : {X : Type 0} (s : LibraryOf X) (d : ℕ) (names : List (List ℕ)) → d < length s.drives → length (slots_in (arranged s d names)) ≡ length (slots_in s)
-length_arranged s d names l = length_sum (slots_in (arranged s d names)) ∙ sum_arranged (λ x. 1) s d names l ∙ sym (length_sum (slots_in s))
+times_arranged s d names l = times_kept s (arranged s d names) (keeps_arranged s d names l)
 
 -- a reel of that name is found among those that have one
 found_step : {X : Type 0} (name : List ℕ) (x : ReelSlot X) (rest : List (ReelSlot X)) (b : Bool) → bytes_eq name x.name ≡ b → (b || is_among rest name) ≡ true
@@ -94,41 +81,29 @@ stays_among : {X : Type 0} (name other : List ℕ) (slots : List (ReelSlot X)) �
 stays_among name other [] n h = absurd cc
 stays_among name other (x ∷ rest) n h = stays_step name other x rest (bytes_eq name x.name) (bytes_eq other x.name) refl refl n h (stays_among name other rest n)
 
-both : (a b : Bool) → (a && b) ≡ true → (a ≡ true) × (b ≡ true)
-both true b h = (refl, h)
-both false b h = absurd cc
-
-neither : (a b : Bool) → (a || b) ≡ false → (a ≡ false) × (b ≡ false)
-neither true b h = absurd cc
-neither false b h = (refl, h)
-
-turned : (b : Bool) → not b ≡ true → b ≡ false
-turned true h = absurd cc
-turned false h = refl
-
 all_stay : {X : Type 0} (name : List ℕ) (names : List (List ℕ)) (slots : List (ReelSlot X)) → list_any (bytes_eq name) names ≡ false → list_all (is_among slots) names ≡ true
     → list_all (is_among (without name slots)) names ≡ true
 all_stay name [] slots n h = refl
 all_stay name (other ∷ names) slots n h =
-    let no = neither (bytes_eq name other) (list_any (bytes_eq name) names) n in
-    let yes = both (is_among slots other) (list_all (is_among slots) names) h in
+    let no = or_parts (bytes_eq name other) (list_any (bytes_eq name) names) n in
+    let yes = and_parts (is_among slots other) (list_all (is_among slots) names) h in
     rw (stays_among name other slots no.0 yes.0) (all_stay name names slots no.1 yes.1)
 
 -- the names of the reels that are taken are those that were asked for
 pub names_picked : {X : Type 0} (names : List (List ℕ)) (slots : List (ReelSlot X)) → are_distinct names ≡ true → list_all (is_among slots) names ≡ true → names_of (picked names slots) ≡ names
 names_picked [] slots d h = refl
 names_picked (name ∷ names) slots d h =
-    let apart = both (not (list_any (bytes_eq name) names)) (are_distinct names) d in
-    let there = both (is_among slots name) (list_all (is_among slots) names) h in
+    let apart = and_parts (not (list_any (bytes_eq name) names)) (are_distinct names) d in
+    let there = and_parts (is_among slots name) (list_all (is_among slots) names) h in
     let w = found_among name slots there.0 in
-    let more = names_picked names (without name slots) apart.1 (all_stay name names slots (turned _ apart.0) there.1) in
+    let more = names_picked names (without name slots) apart.1 (all_stay name names slots (not-true _ apart.0) there.1) in
     ap (λ o. names_of (cons_option o (picked names (without name slots)))) w.1 ∙ ap (λ n. n ∷ names_of (picked names (without name slots))) w.2 ∙ ap (λ rest. name ∷ rest) more
 
 piled : {X : Type 0} (s : LibraryOf X) (d : ℕ) (names : List (List ℕ)) → list_all (is_piled s d) names ≡ true
     → list_all (is_among (pile_of s d)) names ≡ true
 piled s d [] h = refl
 piled s d (name ∷ names) h =
-    let there = both (is_piled s d name) (list_all (is_piled s d) names) h in
+    let there = and_parts (is_piled s d name) (list_all (is_piled s d) names) h in
     rw (list_any-append (λ x. bytes_eq name x.name) s.bin (drive_at s d).stack ∙ there.0) (piled s d names there.1)
 
 is_true : (b : Bool) → IsTrue b → b ≡ true
@@ -137,89 +112,28 @@ is_true b h = h
 pub order_arranged : {U : Type 0} (old new : ListLibrary) (d : ℕ) (names : List (List ℕ)) (result : Result U DriveFault) → d < length old.library.drives → IsTrue (may_arrange old.library d names)
     → IsArranged old d names result new → IfOk result (λ _. names_of (drive_at new.library d).stack ≡ names)
 order_arranged old new d names (Ok x) l may h =
-    let all = both (not (is_some (latched_at old.library d)) && are_distinct names) (list_all (is_piled old.library d) names) (is_true _ may) in
-    let apart = both (not (is_some (latched_at old.library d))) (are_distinct names) all.0 in
+    let all = and_parts (not (is_some (latched_at old.library d)) && are_distinct names) (list_all (is_piled old.library d) names) (is_true _ may) in
+    let apart = and_parts (not (is_some (latched_at old.library d))) (are_distinct names) all.0 in
     ap (λ (x : ListLibrary). names_of (drive_at x.library d).stack) h
     ∙ ap (λ (r : Drive TroubledTape). names_of r.stack) (get_or-set_same old.library.drives d (drive_with (drive_at old.library d).name (picked names (pile_of old.library d))) (drive_with [] []) l)
     ∙ names_picked names (pile_of old.library d) apart.1 (piled old.library d names all.1)
 order_arranged old new d names (Err fault) l may h = tt
 
 -- a fact of what an arrangement left, which holds where nothing changed
-after_arranged : {U : Type 0} (P : ListLibrary → Type 0) (old new : ListLibrary) (d : ℕ) (names : List (List ℕ)) (result : Result U DriveFault) → IsArranged old d names result new
+pub after_arranged : {U : Type 0} (P : ListLibrary → Type 0) (old new : ListLibrary) (d : ℕ) (names : List (List ℕ)) (result : Result U DriveFault) → IsArranged old d names result new
     → P (with_library old (arranged old.library d names)) → P old → P new
 after_arranged P old new d names (Ok x) h made same = subst P (sym h) made
 after_arranged P old new d names (Err OutOfMemory) h made same = subst P (sym h) same
-after_arranged P old new d names (Err NoReel) h made same = absurd h
-after_arranged P old new d names (Err Device) h made same = absurd h
-after_arranged P old new d names (Err (Busy n)) h made same = absurd h
-after_arranged P old new d names (Err NoSuchDrive) h made same = absurd h
-after_arranged P old new d names (Err NameTaken) h made same = absurd h
+after_arranged P old new d names (Err _) h made same = absurd h
 
-pub arrange_told : {U : Type 0} (old new : ListLibrary) (d : ℕ) (names : List (List ℕ)) (result : Result U DriveFault) → d < length old.library.drives → EachReelOnce old.library
-    → IsArranged old d names result new → IsLibrary new (library_of new)
-arrange_told old new d names result l once h =
-    after_arranged (λ (x : ListLibrary). IsLibrary x (library_of x)) old new d names result h (told (with_library old (arranged old.library d names)) (once_arranged old.library d names l once)) (told old once)
-
-pub arrange_names : {U : Type 0} (old new : ListLibrary) (d : ℕ) (names : List (List ℕ)) (result : Result U DriveFault) → d < length old.library.drives
-    → IsArranged old d names result new → (name : List ℕ) → times name (names_in new.library) ≡ times name (names_in old.library)
-arrange_names old new d names result l h name =
-    after_arranged (λ (x : ListLibrary). times name (names_in x.library) ≡ times name (names_in old.library)) old new d names result h (times_arranged old.library d names l name) refl
-
-still_able : (old : ListLibrary) (d : ℕ) (names : List (List ℕ)) → d < length old.library.drives → StacksCanFail (with_library old (arranged old.library d names)) → StacksCanFail old
+pub still_able : (old : ListLibrary) (d : ℕ) (names : List (List ℕ)) → d < length old.library.drives → StacksCanFail (with_library old (arranged old.library d names)) → StacksCanFail old
 still_able old d names l (inl e) = inl e
 still_able old d names l (inr m) = let same = sum_arranged (λ x. bit (is_set_in x.reel)) old.library d names l in inr (omega (arith, same, m))
-
-pub arrange_quiet : {U : Type 0} (old new : ListLibrary) (d : ℕ) (names : List (List ℕ)) (result : Result U DriveFault) → d < length old.library.drives
-    → IsArranged old d names result new → StacksCanFail new → StacksCanFail old
-arrange_quiet old new d names result l h =
-    after_arranged (λ (x : ListLibrary). StacksCanFail x → StacksCanFail old) old new d names result h (still_able old d names l) (λ f. f)
-
--- what is told of the reels that are latched
-away_rest : (name : List ℕ) (reel : Option TroubledTape) → away_name name (option_map at_rest reel) ≡ away_name name reel
-away_rest name None = refl
-away_rest name (Some r) = refl
-
-on_rest : (stack : List (ReelSlot TroubledTape)) → latched_on (map rest_slot stack) ≡ latched_on stack
-on_rest [] = refl
-on_rest (first ∷ rest) = away_rest first.name first.reel
-
-pub latched_rest : (s : ListLibrary) (e : ℕ) → latched_at (library_of s) e ≡ latched_at s.library e
-latched_rest s e = ap (λ (r : Drive _). latched_on r.stack) (drive_at_rest s e) ∙ on_rest (drive_at s.library e).stack
-
-other_latched : (old : ListLibrary) (d e : ℕ) (names : List (List ℕ)) → EachReelOnce old.library → e ≢ d → HasLatched IsLibrary old e → HasLatched IsLibrary (with_library old (arranged old.library d names)) e
-other_latched old d e names once n h t tells =
-    let new = with_library old (arranged old.library d names) in
-    let same : latched_at new.library e ≡ latched_at old.library e =
-    ap (λ (r : Drive _). latched_on r.stack) (get_or-set_other old.library.drives d e (drive_with (drive_at old.library d).name (picked names (pile_of old.library d))) (drive_with [] []) n) in
-    subst (λ o. IsSome o) (sym (ap (λ (x : TapeLibrary). latched_at x e) tells.0 ∙ latched_rest new e ∙ same ∙ sym (latched_rest old e))) (h (library_of old) (told old once))
-
-pub arrange_elsewhere : {U : Type 0} (old new : ListLibrary) (d : ℕ) (names : List (List ℕ)) (result : Result U DriveFault) → EachReelOnce old.library
-    → IsArranged old d names result new → (e : ℕ) → e ≢ d → HasLatched IsLibrary old e → HasLatched IsLibrary new e
-arrange_elsewhere old new d names result once h e n latched =
-    after_arranged (λ (x : ListLibrary). HasLatched IsLibrary x e) old new d names result h (other_latched old d e names once n latched) latched
-
-pub arrange_same : {U A : Type 0} (f : ListLibrary → A) (old new : ListLibrary) (d : ℕ) (names : List (List ℕ)) (result : Result U DriveFault)
-    → f (with_library old (arranged old.library d names)) ≡ f old → IsArranged old d names result new → f new ≡ f old
-arrange_same f old new d names result same h = after_arranged (λ (x : ListLibrary). f x ≡ f old) old new d names result h same refl
 
 -- on the way: what was picked and will be, and what will be left
 pub record IsPicking {X : Type 0} (rest : List (List ℕ)) (now onto : List (ReelSlot X)) (names : List (List ℕ)) (slots before : List (ReelSlot X)) : Type 0 where
   pub all : onto ++ picked rest now ≡ before ++ picked names slots
   pub others : left rest now ≡ left names slots
-
-pub picking_none : {X : Type 0} (name : List ℕ) (rest : List (List ℕ)) (now onto : List (ReelSlot X)) (names : List (List ℕ)) (slots before : List (ReelSlot X))
-    → IsPicking (name ∷ rest) now onto names slots before → slot_named name now ≡ None → IsPicking rest (without name now) onto names slots before
-picking_none name rest now onto names slots before h none = record {
-  all = ap (λ o. onto ++ cons_option o (picked rest (without name now))) (sym none) ∙ h.all;
-  others = h.others;
-}
-
-pub picking_some : {X : Type 0} (name : List ℕ) (rest : List (List ℕ)) (now onto : List (ReelSlot X)) (names : List (List ℕ)) (slots before : List (ReelSlot X)) (x : ReelSlot X)
-    → IsPicking (name ∷ rest) now onto names slots before → slot_named name now ≡ Some x → IsPicking rest (without name now) (onto ++ x ∷ []) names slots before
-picking_some name rest now onto names slots before x h some = record {
-  all = append_assoc onto (x ∷ []) (picked rest (without name now)) ∙ ap (λ o. onto ++ cons_option o (picked rest (without name now))) (sym some) ∙ h.all;
-  others = h.others;
-}
 
 -- a place where the test passes first
 pub place_some : {X : Type 0} (p : X → Bool) (xs : List X) (at : ℕ) (d : X) → position_from p 0 xs ≡ Some at
@@ -259,7 +173,7 @@ any_lent f name (x ∷ xs) = ap (λ b. bytes_eq name (f x) || b) (any_lent f nam
 
 -- the names from a place on
 pub names_from : {A : Type 0} (f : A → List ℕ) (xs : List A) (i : ℕ) (d : A) → i < length xs → map f (drop i xs) ≡ f (get_or xs i d) ∷ map f (drop (i + 1) xs)
-names_from f xs i d l = ap (map f) (drop-cons xs i d l) ∙ ap (λ m. f (get_or xs i d) ∷ map f (drop m xs)) (suc-eq-add-one i)
+names_from f xs i d l = ap (map f) (drop_more xs i d l)
 
 -- the first name stands again, or not
 pub repeated_is : {A : Type 0} (f : A → List ℕ) (xs : List A) (x : A) (rest : List A) (found : Bool) → xs ≡ x ∷ rest
@@ -294,10 +208,6 @@ differ_yet f names i found h t same =
     let next : drop 1 (map f (drop i names)) ≡ map f (drop (i + 1) names) = drop-map f 1 (drop i names) ∙ ap (map f) (drop-drop 1 i names) in
     ap are_distinct (sym next) ∙ sym (differs (map f (drop i names)) (sym e ∙ t)) ∙ same
 
-all_lent : {A : Type 0} (f : A → List ℕ) (p : List ℕ → Bool) (xs : List A) → list_all p (map f xs) ≡ list_all (λ x. p (f x)) xs
-all_lent f p [] = refl
-all_lent f p (x ∷ xs) = ap (λ b. p (f x) && b) (all_lent f p xs)
-
 -- what is found of the fields is so of the value
 pub may_is : {A : Type 0} (s now : ListLibrary) (d : ℕ) (old : Drive TroubledTape) (f : A → List ℕ) (names : List A) (latched differ there : Bool) → s ≡ now → d < length now.library.drives
     → old ≡ get_or s.library.drives d old → latched ≡ is_some (latched_on old.stack) → latched ≡ false → differ ≡ are_distinct (map f names) → differ ≡ true
@@ -310,7 +220,7 @@ may_is s now d old f names latched differ there v l e a b m n bin stack g h u =
     let ready : is_some (latched_at s.library d) ≡ false = ap (λ (r : Drive TroubledTape). is_some (latched_on r.stack)) (sym is) ∙ sym a ∙ b in
     let apart : are_distinct (map f names) ≡ true = sym m ∙ n in
     let all : list_all (is_piled s.library d) (map f names) ≡ there =
-    all_lent f (is_piled s.library d) names ∙ ap (λ (r : Drive TroubledTape). list_all (λ n. is_among s.library.bin (f n) || is_among r.stack (f n)) names) (sym is) ∙ sym t in
+    list_all-map (is_piled s.library d) f names ∙ ap (λ (r : Drive TroubledTape). list_all (λ n. is_among s.library.bin (f n) || is_among r.stack (f n)) names) (sym is) ∙ sym t in
     subst (λ (x : ListLibrary). there ≡ may_arrange x.library d (map f names)) v
     (sym (ap (λ b. (not b && are_distinct (map f names)) && list_all (is_piled s.library d) (map f names)) ready ∙ ap (λ b. b && list_all (is_piled s.library d) (map f names)) apart ∙ all))
 
@@ -320,15 +230,7 @@ pub stocked_arranged : (s : LibraryOf TroubledTape) (d : ℕ) (old new : Drive T
     → IsStocked (library (set s.drives d new) bin) reels more
 stocked_arranged s d old new names onto bin reels room more l e n o b m h =
     let is : old ≡ drive_at s d = read_at s d old l e in
-    let put : library (set s.drives d new) bin ≡ library (set s.drives d (drive_with old.name (picked names (s.bin ++ old.stack)))) (left names (s.bin ++ old.stack)) =
-    ap (λ r. library (set s.drives d r) bin) (n ∙ ap (λ st. drive_with old.name st) o) ∙ ap (λ xs. library (set s.drives d (drive_with old.name (picked names (s.bin ++ old.stack)))) xs) b in
-    let same = put ∙ ap (λ (r : Drive TroubledTape). library (set s.drives d (drive_with r.name (picked names (s.bin ++ r.stack)))) (left names (s.bin ++ r.stack))) is in
-    let made : IsStocked (arranged s d names) reels room = record {
-      once = once_arranged s d names l h.once;
-      counted = h.counted ∙ sym (length_arranged s d names l);
-      fits = h.fits;
-    } in
-    stocked_same (arranged s d names) (library (set s.drives d new) bin) reels room more same m made
+    rw (n, o, b, is) (stocked_kept s (arranged s d names) reels room more (keeps_arranged s d names l) m h)
 
 -- a reel that is found on the stacks or in the bin
 pub found_or : {X : Type 0} (name : List ℕ) (above below : List (ReelSlot X)) (o : Option (ReelSlot X)) → o ≡ slot_named name above → IsSome o → o ≡ slot_named name (above ++ below)
@@ -343,7 +245,7 @@ stacks_from : {X : Type 0} (name : List ℕ) (drives : List (Drive X)) (i : ℕ)
     → slot_named name (flat_map (λ x. x.stack) (drop i drives)) ≡ slot_named name (r.stack ++ flat_map (λ x. x.stack) (drop (i + 1) drives))
 stacks_from {X = X} name drives i r l is =
     let S : List (Drive X) → List (ReelSlot X) = λ rs. flat_map (λ x. x.stack) rs in
-    ap (λ rs. slot_named name (S rs)) (drop-cons drives i r l ∙ ap (λ x. x ∷ drop (suc i) drives) (sym is)) ∙ ap (λ m. slot_named name (r.stack ++ S (drop m drives))) (suc-eq-add-one i)
+    ap (λ rs. slot_named name (S rs)) (drop_more drives i r l ∙ ap (λ x. x ∷ drop (i + 1) drives) (sym is))
 
 pub stacked_here : {X : Type 0} (name : List ℕ) (drives : List (Drive X)) (i : ℕ) (r : Drive X) (o : Option (ReelSlot X)) → i < length drives → r ≡ get_or drives i r → o ≡ slot_named name r.stack → IsSome o
     → slot_named name (flat_map (λ x. x.stack) (drop i drives)) ≡ slot_named name (flat_map (λ x. x.stack) drives) → o ≡ slot_named name (flat_map (λ x. x.stack) drives)

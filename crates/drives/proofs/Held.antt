@@ -1,11 +1,7 @@
 -- The drives that a seat holds.
 use Rattle.std.proofs.Common.{◌≡◌, ℕ, ◌+◌, ◌≤◌, Bool, true, false, List, length, replicate, slice_index, slice_set, slice_index_or, ap, ◌∙◌, subst, arith, rules}
-use Rattle.std.proofs.lemmas.Grind.{common_steps}
-use Rattle.std.proofs.lemmas.List.{set-set, set-get_or, get_or-replicate}
-use Rattle.drives.specs.declared.holds.TheConstants.{DRIVE_LIMIT}
-use Rattle.drives.specs.declared.view.View.{View}
-use Rattle.drives.specs.Holding.{given, taken, has, newcomer}
-use Rattle.drives.specs.Local.{holders, AreHolders, IsSeatOf}
+use Rattle.drives.proofs.Names.{common_steps, set-set, set-get_or, get_or-replicate, DRIVE_LIMIT, View, given, taken, has, newcomer, holders, AreHolders}
+use Rattle.drives.proofs.Names.{IsSeatOf}
 
 -- a drive that was not held is taken and given back
 pub taken_and_given : (held : List Bool) (d : ℕ) → slice_index_or held d false ≡ false → slice_set (slice_set held d true) d false ≡ held

@@ -8,3 +8,4 @@ pub mod ToldOrder
 mod Calls
 mod Lying
 mod Refused
+mod Names

@@ -1,12 +1,9 @@
 -- Sums over the reels of a shop, and what moves of reels leave of them.
 use Rattle.std.proofs.Common.{◌≡◌, ℕ, ◌+◌, ◌<◌, ◌≤◌, Bool, true, false, cond, List, [], ◌∷◌, ◌++◌, length, flat_map, take, drop, Option, Some, None, IsSome, MatchBool, ◌||◌, refl, sym, ap, ◌∙◌, subst, arith}
-use Rattle.std.proofs.lemmas.List.{get_or-set_same, append-nil}
+use Rattle.drives.proofs.Names.{get_or-set_same, append-nil, sum_by_push, sum_by-set, sum_by-append, sum_by-cons, list_any-append, sum_by, count_by, list_any}
+use Rattle.drives.proofs.Names.{bytes_eq, ReelSlot, slot, Drive, drive_with, LibraryOf, library, drive_at, with_drive_at, slots_in, names_of, names_in, times}
+use Rattle.drives.proofs.Names.{EachReelOnce, first_reel, latched_at, latched_on, with_first, at_first, to_bin}
 use Rattle.std.proofs.lemmas.List.Concat.{flat_map-append}
-use Rattle.std.proofs.lemmas.List.Sums.{sum_by_push, sum_by-set, sum_by-append, sum_by-cons}
-use Rattle.std.proofs.lemmas.List.Folds.{list_any-append}
-use Rattle.std.specs.List.{sum_by, count_by, list_any}
-use Rattle.std.specs.Str.{bytes_eq}
-use Rattle.drives.specs.TapeLibrary.{ReelSlot, slot, Drive, drive_with, LibraryOf, library, drive_at, with_drive_at, slots_in, names_of, names_in, times, EachReelOnce, first_reel, latched_at, latched_on, with_first, at_first, to_bin}
 
 -- a sum over all reels, by drives
 sum_by_stacks : {X : Type 0} (f : ReelSlot X → ℕ) (drives : List (Drive X)) → sum_by f (flat_map (λ r. r.stack) drives) ≡ sum_by (λ r. sum_by f r.stack) drives
@@ -58,6 +55,10 @@ sum_by_to_bin f s d reel first rest l e =
     let o : sum_by f r.stack ≡ f first + sum_by f (drop 1 r.stack) = subst (λ st. sum_by f st ≡ f first + sum_by f (drop 1 st)) (sym e) (sum_by-cons f first rest) in
     omega (arith, a, b, c, m, n, o)
 
+-- 1 for what is so, and else 0
+abbrev pub bit : Bool → ℕ
+bit b = cond b 1 0
+
 -- how often a name stands, as a sum over the reels
 abbrev pub named : {X : Type 0} → List ℕ → ReelSlot X → ℕ
 named name x = cond (bytes_eq name x.name) 1 0
@@ -85,53 +86,37 @@ pub length_latched : {X : Type 0} (stack : List (ReelSlot X)) → IsSome (latche
 length_latched [] h = absurd cc
 length_latched (first ∷ rest) h = omega arith
 
--- a sum of what does not change at the first reel of the drive d stays
-same_at_first : {X : Type 0} (f : ReelSlot X → ℕ) (same : (x : ReelSlot X) (reel : Option X) → f (slot x.name reel) ≡ f x) (s : LibraryOf X) (d : ℕ) (reel : Option X) (stack : List (ReelSlot X))
-    → (drive_at s d).stack ≡ stack → d < length s.drives → sum_by f (slots_in (at_first s d reel)) ≡ sum_by f (slots_in s)
-same_at_first f same s d reel [] e l =
-    let r = drive_at s d in
-    let a = sum_by_with_drive f s d (drive_with r.name (with_first reel r.stack)) l in
-    let b : sum_by f (with_first reel r.stack) ≡ 0 = ap (λ st. sum_by f (with_first reel st)) e in
-    let c : sum_by f r.stack ≡ 0 = ap (λ st. sum_by f st) e in
-    omega (arith, a, b, c)
-same_at_first f same s d reel (first ∷ rest) e l =
-    let a = sum_by_at_first f s d reel first rest l e in
-    let b = same first reel in
-    omega (arith, a, b)
+-- the reels of t have the names of those of s, wherever they lie
+abbrev pub KeepsNames : {X : Type 0} → LibraryOf X → LibraryOf X → Type 0
+KeepsNames s t = (f : List ℕ → ℕ) → sum_by (λ x. f x.name) (slots_in t) ≡ sum_by (λ x. f x.name) (slots_in s)
+
+pub times_kept : {X : Type 0} (s t : LibraryOf X) → KeepsNames s t → (name : List ℕ) → times name (names_in t) ≡ times name (names_in s)
+times_kept s t same name = times_named name (slots_in t) ∙ same (λ n. bit (bytes_eq name n)) ∙ sym (times_named name (slots_in s))
+
+pub once_kept : {X : Type 0} (s t : LibraryOf X) → KeepsNames s t → EachReelOnce s → EachReelOnce t
+once_kept s t same once name = subst (λ n. n ≤ 1) (sym (times_kept s t same name)) (once name)
+
+pub length_kept : {X : Type 0} (s t : LibraryOf X) → KeepsNames s t → length (slots_in t) ≡ length (slots_in s)
+length_kept s t same = length_sum (slots_in t) ∙ same (λ n. 1) ∙ sym (length_sum (slots_in s))
+
+same_first : {X : Type 0} (f : List ℕ → ℕ) (reel : Option X) (stack : List (ReelSlot X)) → sum_by (λ x. f x.name) (with_first reel stack) ≡ sum_by (λ x. f x.name) stack
+same_first f reel [] = refl
+same_first f reel (first ∷ rest) = sum_by-cons (λ x. f x.name) (slot first.name reel) rest ∙ sym (sum_by-cons (λ x. f x.name) first rest)
 
 -- no name comes or goes where the first reel of the drive d is taken away or laid down
-pub once_at_first : {X : Type 0} (s : LibraryOf X) (d : ℕ) (reel : Option X) → d < length s.drives → EachReelOnce s → EachReelOnce (at_first s d reel)
-once_at_first s d reel l once name =
-    let a = same_at_first (named name) (λ x reel. refl) s d reel (drive_at s d).stack refl l in
-    let b = times_named name (slots_in s) in
-    let c = times_named name (slots_in (at_first s d reel)) in
-    let o = once name in
-    omega (arith, a, b, c, o)
+pub keeps_at_first : {X : Type 0} (s : LibraryOf X) (d : ℕ) (reel : Option X) → d < length s.drives → KeepsNames s (at_first s d reel)
+keeps_at_first s d reel l f =
+    let r = drive_at s d in
+    let a = sum_by_with_drive (λ x. f x.name) s d (drive_with r.name (with_first reel r.stack)) l in
+    let b = same_first f reel r.stack in
+    omega (arith, a, b)
 
 -- and none where it is moved to the bin
-pub once_to_bin : {X : Type 0} (s : LibraryOf X) (d : ℕ) (reel : X) → d < length s.drives → 0 < length (drive_at s d).stack → EachReelOnce s → EachReelOnce (to_bin s d reel)
-once_to_bin s d reel l some once name =
+pub keeps_to_bin : {X : Type 0} (s : LibraryOf X) (d : ℕ) (reel : X) → d < length s.drives → 0 < length (drive_at s d).stack → KeepsNames s (to_bin s d reel)
+keeps_to_bin s d reel l some f =
     let w = first_of (drive_at s d).stack some in
-    let a = sum_by_to_bin (named name) s d reel w.0 w.1 l w.2 in
-    let b = times_named name (slots_in s) in
-    let c = times_named name (slots_in (to_bin s d reel)) in
-    let o = once name in
-    omega (arith, a, b, c, o)
-
-pub length_at_first : {X : Type 0} (s : LibraryOf X) (d : ℕ) (reel : Option X) → d < length s.drives → length (slots_in (at_first s d reel)) ≡ length (slots_in s)
-length_at_first s d reel l =
-    let a = same_at_first (λ x. 1) (λ x reel. refl) s d reel (drive_at s d).stack refl l in
-    let b = length_sum (slots_in s) in
-    let c = length_sum (slots_in (at_first s d reel)) in
-    omega (arith, a, b, c)
-
-pub length_to_bin : {X : Type 0} (s : LibraryOf X) (d : ℕ) (reel : X) → d < length s.drives → 0 < length (drive_at s d).stack → length (slots_in (to_bin s d reel)) ≡ length (slots_in s)
-length_to_bin s d reel l some =
-    let w = first_of (drive_at s d).stack some in
-    let a = sum_by_to_bin (λ x. 1) s d reel w.0 w.1 l w.2 in
-    let b = length_sum (slots_in s) in
-    let c = length_sum (slots_in (to_bin s d reel)) in
-    omega (arith, a, b, c)
+    let a = sum_by_to_bin (λ x. f x.name) s d reel w.0 w.1 l w.2 in
+    omega (arith, a)
 
 -- the bin has less reels than there are
 pub bin_within : {X : Type 0} (s : LibraryOf X) → length s.bin ≤ length (slots_in s)
@@ -158,10 +143,6 @@ latched_at_first s d l some =
     let w = first_of r.stack some in
     let is : (drive_at (at_first s d None) d).stack ≡ with_first None r.stack = ap (λ x. x.stack) (get_or-set_same s.drives d (drive_with r.name (with_first None r.stack)) (drive_with [] []) l) in
     subst (λ st. IsSome (latched_on st)) (sym is) (subst (λ st. IsSome (latched_on (with_first None st))) (sym w.2) refl)
-
--- 1 for what is so, and else 0
-abbrev pub bit : Bool → ℕ
-bit b = cond b 1 0
 
 any_more : {X : Type 0} (p : X → Bool) (x : X) (xs : List X) (b : Bool) → p x ≡ b → MatchBool (list_any p xs) (0 < count_by p xs) (count_by p xs ≡ 0)
     → MatchBool (list_any p (x ∷ xs)) (0 < count_by p (x ∷ xs)) (count_by p (x ∷ xs) ≡ 0)

@@ -1,17 +1,11 @@
 -- An operator's order of a stack, and reels by their names, as the shop that is told has them.
 use Rattle.std.proofs.Common.{◌≡◌, ℕ, Bool, true, false, not, ◌&&◌, ◌||◌, List, [], ◌∷◌, ◌++◌, map, set, cond, is_some, Option, Some, None, Result, Ok, Err, MatchResult, refl, sym, ap, ◌∙◌}
-use Rattle.std.proofs.lemmas.List.{map-set, map-append}
-use Rattle.std.specs.List.{list_all, cons_option}
-use Rattle.std.specs.Option.{option_map, option_and_then}
-use Rattle.std.specs.Str.{bytes_eq}
-use Rattle.tape.specs.Trouble.{TroubledTape}
-use Rattle.drives.specs.declared.fault.DriveFault.{DriveFault}
-use Rattle.drives.specs.declared.fault.DriveFault.TheVariants.{NoSuchDrive, Busy, NoReel, Device, OutOfMemory, NameTaken}
-use Rattle.drives.specs.TapeLibrary.{KeptReel, ReelSlot, Drive, drive_with, library, drive_at, slots_in, latched_at}
-use Rattle.drives.specs.ListLibrary.{ListLibrary, with_library, at_rest, rest_slot, rest_drive, library_of}
-use Rattle.drives.specs.Arranging.{slot_named, reel_named, without, picked, left, pile_of, arranged, are_distinct, is_among, is_piled, may_arrange, IsArranged}
+use Rattle.drives.proofs.Names.{map-set, map-append, list_all, cons_option, option_map, option_and_then, bytes_eq, TroubledTape, DriveFault, OutOfMemory}
+use Rattle.drives.proofs.Names.{KeptReel, ReelSlot, Drive, drive_with, library, drive_at, slots_in, latched_at, ListLibrary, with_library, at_rest, rest_slot}
+use Rattle.drives.proofs.Names.{rest_drive, library_of, slot_named, reel_named, without, picked, left, pile_of, arranged, are_distinct, is_among, is_piled}
+use Rattle.drives.proofs.Names.{may_arrange, IsArranged}
 use Rattle.drives.proofs.ListLibrary.{drive_at_rest, slots_in_rest}
-use Rattle.drives.proofs.Arranging.{latched_rest}
+use Rattle.drives.proofs.Elsewhere.{latched_rest}
 
 -- a stack is told
 pub stack_told : (s : ListLibrary) (d : ℕ) (stack : List (ReelSlot TroubledTape)) → stack ≡ (drive_at s.library d).stack → map rest_slot stack ≡ (drive_at (library_of s) d).stack
@@ -75,22 +69,14 @@ pub order_told : {U : Type 0} (old new : ListLibrary) (d : ℕ) (names : List (L
     → MatchResult result (λ _. library_of new ≡ arranged (library_of old) d names) (λ _. library_of new ≡ library_of old)
 order_told old new d names (Ok x) h = ap library_of h ∙ arranged_rest old d names
 order_told old new d names (Err OutOfMemory) h = ap library_of h
-order_told old new d names (Err NoReel) h = absurd h
-order_told old new d names (Err Device) h = absurd h
-order_told old new d names (Err (Busy n)) h = absurd h
-order_told old new d names (Err NoSuchDrive) h = absurd h
-order_told old new d names (Err NameTaken) h = absurd h
+order_told old new d names (Err _) h = absurd h
 
 among_rest : (name : List ℕ) (slots : List (ReelSlot TroubledTape)) → is_among (map rest_slot slots) name ≡ is_among slots name
 among_rest name [] = refl
 among_rest name (x ∷ slots) = ap (λ b. bytes_eq name x.name || b) (among_rest name slots)
 
 piled_rest : (s : ListLibrary) (d : ℕ) (name : List ℕ) → is_piled (library_of s) d name ≡ is_piled s.library d name
-piled_rest s d name =
-    let stack = (drive_at s.library d).stack in
-    ap (λ (r : Drive KeptReel). is_among (map rest_slot s.library.bin) name || is_among r.stack name) (drive_at_rest s d)
-    ∙ ap (λ b. b || is_among (map rest_slot stack) name) (among_rest name s.library.bin)
-    ∙ ap (λ b. is_among s.library.bin name || b) (among_rest name stack)
+piled_rest s d name = simp (drive_at_rest s d, among_rest)
 
 all_piled_rest : (s : ListLibrary) (d : ℕ) (names : List (List ℕ)) → list_all (is_piled (library_of s) d) names ≡ list_all (is_piled s.library d) names
 all_piled_rest s d [] = refl

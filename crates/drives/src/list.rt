@@ -317,7 +317,6 @@ impl ListStacks {
     fn lay_first(&mut self, drive: usize, reel: TroubledReel)
         requires drive { drive < length self.old.library.drives }
         requires latched { HasLatched IsLibrary self.old drive }
-        ensures some { 0 < length (drive_at self.old.library drive).stack }
         ensures once { EachReelOnce self.old.library }
         ensures laid { IsReelLaidBack self.old drive reel self.new }
     {
@@ -334,7 +333,6 @@ impl ListStacks {
     ) -> Result<(), (TroubledReel, DriveFault)>
         requires drive { drive < length self.old.library.drives }
         requires latched { HasLatched IsLibrary self.old drive }
-        ensures some { 0 < length (drive_at self.old.library drive).stack }
         ensures once { EachReelOnce self.old.library }
         ensures moved { IsReelMoved self.old drive reel (moved_result result) self.new }
         ensures back { IfErr result (λ refused. refused.0 ≡ reel) }

@@ -45,7 +45,7 @@ impl<H: Holds, S: Stacks> DriveTable<H, S> {
         //
         // If it is known which seat holds the drive, the take finds the number of this seat (field
         // `found`). If the drive is known to be free, the take finds 0. If the open then succeeds,
-        // the seat that opened the drive is known to hold the drive. A failed open does not change
+        // the given seat is known to hold the drive. A failed open does not change
         // the known holders (field `told`).
         //
         // The given seat still belongs to the hold record (field `own`). A seat with another number

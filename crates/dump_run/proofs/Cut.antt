@@ -1,8 +1,7 @@
 -- A payload that is cut into blocks.
 use Rattle.std.proofs.Common.{◌≡◌, ℕ, zero, suc, ◌+◌, ◌*◌, ◌<◌, ◌≤◌, List, [], length, take, drop, refl, ◌∙◌, ap, arith}
-use Rattle.std.specs.Prelude.{get_or}
+use Rattle.dump_run.proofs.Words.{get_or, drop-drop, length-take-le, length-drop}
 use Rattle.std.proofs.Math.Nat.{mul-le-mul_right}
-use Rattle.std.proofs.lemmas.List.{drop-drop, length-take-le, length-drop}
 use Rattle.dump_run.specs.Blocks.{HasBlock, cut_blocks}
 
 pub length_cut : (n size : ℕ) (payload : List ℕ) → length (cut_blocks n size payload) ≡ n

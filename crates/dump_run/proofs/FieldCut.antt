@@ -1,20 +1,9 @@
 -- A text that is cut at the first byte of a kind.
-use Rattle.std.proofs.Common.{◌≡◌, ◌≢◌, ℕ, zero, suc, ◌<◌, ◌^◌, List, [], ◌∷◌, ◌++◌, length, drop, get_or, decimal, Option, Some, None, refl, sym, ap, subst, ◌∙◌, append_assoc, arith}
-use Rattle.std.specs.Int.{IsInRange}
+use Rattle.std.proofs.Common.{Bool, true, false, if◌then◌else◌, ◌==◌, ◌≡◌, ◌≢◌, ℕ, zero, suc, ◌<◌, ◌≤◌, ◌^◌, List, [], ◌∷◌, ◌++◌, length, take, drop, get_or, decimal, Option, Some, None, refl, sym, ap, subst, ◌∙◌, append_assoc, arith}
+use Rattle.dump_run.proofs.Words.{IsInRange, decimal_is_IsNumeral, AllByRecursion, IsName, IsDevice, AreNumbers, count_text, joined, Lacks, NoFeed, IsCut, FindsText, VolumeCount}
 use Rattle.std.specs.Borrow.{Bor}
-use Rattle.std.proofs.lemmas.Fmt.{decimal_is_IsNumeral}
-use Rattle.std.proofs.lemmas.List.{drop_at}
+pub use Rattle.std.proofs.lemmas.List.{append_cancel_left as same_rest}
 use Rattle.std.proofs.lemmas.Str.Parse.{digit_at}
-use Rattle.std.specs.List.{AllByRecursion}
-use Rattle.dumpdates.specs.Entry.{IsName}
-use Rattle.dump_run.specs.Run.{IsDevice}
-use Rattle.dump_run.specs.Checkpoint.{AreNumbers, count_text}
-use Rattle.dump_run.specs.CheckpointParts.{Lacks, NoFeed, IsCut, FindsText}
-use Rattle.dump_run.specs.declared.count.VolumeCount.{VolumeCount}
-
-pub same_rest : (word rest more : List ℕ) → word ++ rest ≡ word ++ more → rest ≡ more
-same_rest word rest more is =
-    sym (drop_at word rest (length word) refl) ∙ ap (drop (length word)) is ∙ drop_at word more (length word) refl
 
 lacks_tail : (byte b : ℕ) (text : List ℕ) → Lacks byte (b ∷ text) → Lacks byte text
 lacks_tail byte b text lacks = λ i within. lacks (suc i) (omega (arith, within))
@@ -118,3 +107,31 @@ count_lacks c few =
     (lacks_one 10 32 (decimal c.first ++ 32 ∷ decimal c.count) (λ same. omega (arith, same))
     (lacks_append 10 (decimal c.first) (32 ∷ decimal c.count) (lacks_decimal 10 c.first (omega arith) (omega (arith, first)))
     (lacks_one 10 32 (decimal c.count) (λ same. omega (arith, same)) (lacks_decimal 10 c.count (omega arith) (omega (arith, count))))))
+
+-- no byte of a word is a line feed
+abbrev pub is_clean : List ℕ → Bool
+is_clean [] = true
+is_clean (b ∷ bs) = if b == 10 then false else is_clean bs
+
+clean_first : (b : ℕ) (bs : List ℕ) → is_clean (b ∷ bs) ≡ true → (b ≢ 10) × (is_clean bs ≡ true)
+clean_first b bs is = grind arith
+
+clean_each : (word : List ℕ) → is_clean word ≡ true → AllByRecursion (λ b. b ≢ 10) word
+clean_each [] is = tt
+clean_each (b ∷ bs) is = let first = clean_first b bs is in (first.0, clean_each bs first.1)
+
+pub word_lacks : (word : List ℕ) → is_clean word ≡ true → NoFeed word
+word_lacks word is = lacks_each 10 word (clean_each word is)
+
+pub number_lacks : (word : List ℕ) (n : ℕ) → is_clean word ≡ true → n < 2 ^ 64 → NoFeed (word ++ decimal n)
+number_lacks word n clean small = lacks_append 10 word (decimal n) (word_lacks word clean) (lacks_decimal 10 n (omega arith) small)
+
+-- so many lines that begin the same bytes are the same
+pub same_begun : (read lines : List (List ℕ)) (left right : List ℕ) → AllByRecursion NoFeed read → AllByRecursion NoFeed lines → length read ≤ length lines
+    → joined read ++ left ≡ joined lines ++ right → (read ≡ take (length read) lines) × (left ≡ joined (drop (length read) lines) ++ right)
+same_begun [] lines left right clean lack few is = (refl, is)
+same_begun (r ∷ rs) [] left right clean lack few is = absurd (omega (arith, few))
+same_begun (r ∷ rs) (l ∷ ls) left right clean lack few is =
+    let one = one_cut 10 r l (joined rs ++ left) (joined ls ++ right) clean.0 lack.0 (simp append_assoc at is) in
+    let others = same_begun rs ls left right clean.1 lack.1 (omega (arith, few)) one.1 in
+    (cc, others.1)

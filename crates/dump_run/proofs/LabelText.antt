@@ -1,12 +1,8 @@
 -- The text of a label has room in it, and zero bytes stand after the text.
-use Rattle.std.proofs.Common.{◌≡◌, ℕ, ◌+◌, ◌-◌, ◌^◌, ◌<◌, ◌≤◌, List, [], ◌∷◌, ◌++◌, append_assoc, length, length-append, drop, replicate, decimal, sym, ◌∙◌, ap, arith}
-use Rattle.std.proofs.lemmas.Fmt.{length-decimal-le}
-use Rattle.std.proofs.lemmas.List.{drop-drop, drop-replicate, length-replicate}
+use Rattle.std.proofs.Common.{◌≡◌, ℕ, ◌+◌, ◌-◌, ◌^◌, ◌<◌, ◌≤◌, List, length, length-append, drop, replicate, decimal, sym, ◌∙◌, ap, arith}
+use Rattle.dump_run.proofs.Words.{length-decimal-le, drop-drop, drop-replicate, length-replicate, PlainRun, IsRun, label, label_lines}
 use Rattle.std.proofs.lemmas.Slice.{drop-put_mid}
 use borrow.Rule.Slice.PartMut.{put_mid}
-use Rattle.rmt_wire.specs.Number.{line_feed, space}
-use Rattle.dump_run.specs.Run.{PlainRun, IsRun}
-use Rattle.dump_run.specs.Label.{label, label_lines, line_of}
 
 -- a number of a line has at most twelve digits
 pub line_number_is_short : (n : ℕ) → n ≤ 999999999999 → length (decimal n) ≤ 12
@@ -26,17 +22,6 @@ zeros_behind end next k bytes text at long fits all zeros =
     ∙ ap (λ l. drop k l) zeros
     ∙ drop-replicate k (1024 - end) 0
     ∙ ap (λ n. replicate n 0) (left_behind end next k at)
-
--- a word, a space, a text and the end of the line
-pub length_line : (word text : List ℕ) → length (line_of word text) ≡ length word + length text + 2
-length_line word text = simp length-append (omega arith)
-
--- they are added one after the other
-pub four_parts : (old word text a b c d : List ℕ) → a ≡ old ++ word → b ≡ a ++ space ∷ [] → c ≡ b ++ text → d ≡ c ++ line_feed ∷ [] → d ≡ old ++ line_of word text
-four_parts old word text a b c d h1 h2 h3 h4 = simp (h4, h3, h2, h1, append_assoc)
-
-pub length_with_line : (old word text new : List ℕ) → new ≡ old ++ line_of word text → length new ≡ length old + length word + length text + 2
-length_with_line old word text new e = omega (arith, ap length e, length-append old (line_of word text), length_line word text)
 
 -- the longest text has 341 bytes
 pub label_text_fits : (run : PlainRun) (volume first : ℕ) → IsRun run → volume < 2 ^ 32 → first < 2 ^ 32 → length (label_lines run volume first) ≤ 341

@@ -1,3 +1,4 @@
+pub mod Words
 pub mod Cut
 pub mod FieldCut
 pub mod Limits

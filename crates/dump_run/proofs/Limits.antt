@@ -1,7 +1,7 @@
 -- The limits of a run and of its id, as their fields need them.
 use Rattle.std.proofs.Common.{◌<◌, ◌≤◌, ◌^◌, length, arith}
 use Rattle.dump_run.specs.DumpId.{IsDumpId, plain_id}
-use Rattle.dump_run.specs.Run.{PlainRun, IsRun}
+use Rattle.dump_run.proofs.Words.{PlainRun, IsRun}
 
 pub number_of_run : (r : PlainRun) → IsRun r → (length r.device ≤ 255) × (r.blocks < 2 ^ 32)
 number_of_run r is =

@@ -1,31 +1,18 @@
 -- Counts that are in order, and the first that is not.
 use Rattle.std.proofs.Common.{◌≡◌, ◌⊎◌, inl, inr, ℕ, suc, ◌+◌, ◌<◌, ◌≤◌, List, [], ◌∷◌, ◌++◌, All, length, length-append, get_or, take, drop, map, Err, refl, sym, ◌∙◌, ap, subst, append_assoc, arith}
 use Rattle.std.proofs.Math.Seq.{take-suc, drop-cons}
-use Rattle.std.proofs.lemmas.List.{append-nil, get_or_default, length-map, length-take-le, map-append, take-append-drop, take_all}
-use Rattle.std.proofs.lemmas.List.Concat.{flat_map-append}
-use Rattle.std.proofs.lemmas.List.Elements.{All-nil, All-cons}
-use Rattle.dump_run.specs.Run.{PlainRun, IsRun}
+use Rattle.dump_run.proofs.Words.{append-nil, get_or_default, length-map, length-take-le, map-append, take-append-drop, take_all, flat_map-append, All-nil, All-cons, PlainRun, IsRun, AreNumbers, SpellsCheckpoint}
+use Rattle.dump_run.proofs.Words.{HasLineOutOfOrder, HasResumeFault, LacksLine, head, joined, run_lines, count_line, checkpoint_lines, checkpoint_text, AreCounts, IsNext, AreOrdered, VolumeCount}
 use Rattle.dump_run.specs.Counts.{IsCount, AreVolumes, checkpoint_after, checkpoint_of}
-use Rattle.dump_run.specs.Checkpoint.{AreNumbers, SpellsCheckpoint, HasBadLine, HasLineOutOfOrder, HasResumeFault, LacksLine, head, joined, run_lines, count_line, checkpoint_lines, checkpoint_text}
-use Rattle.dump_run.specs.CheckpointParts.{HasBadCount, AreCounts, IsNext, AreOrdered}
-use Rattle.dump_run.proofs.OneText.{all_good, past_head, same_run, same_counts, no_bad_line}
-use Rattle.dump_run.specs.declared.count.VolumeCount.{VolumeCount}
+use Rattle.dump_run.proofs.OneText.{all_good, past_head, same_text, no_bad_line}
 use Rattle.dump_run.specs.declared.fault.ResumeFault.{ResumeFault}
 use Rattle.dump_run.specs.declared.fault.ResumeFault.TheVariants.{BadLine, NotInOrder, OutOfMemory}
-
--- the volumes after the first one, from its own numbers on
-behind : (run : PlainRun) (volume first : ℕ) (c : VolumeCount) (counts : List VolumeCount) → AreVolumes run volume first (c ∷ counts)
-    → AreVolumes run (c.volume + 1) (c.first + c.count) counts
-behind run volume first c counts v =
-    subst (λ f. AreVolumes run (c.volume + 1) (f + c.count) counts) (sym v.1) (subst (λ w. AreVolumes run (w + 1) (first + c.count) counts) (sym v.0) v.4)
 
 -- numbers of volumes are within the limit, as each of them has a block, or is the only one
 first_numbers : (run : PlainRun) (volume first : ℕ) (c : VolumeCount) → volume ≤ first + 1 → run.blocks ≤ 2147483647 → c.volume ≡ volume → c.first ≡ first
     → IsCount run first c.count → AreNumbers c
-first_numbers run volume first c at limit v f (within, inl some) =
-    record { volume = omega (arith, at, limit, v, within, some); first = omega (arith, limit, f, within); count = omega (arith, limit, within) }
-first_numbers run volume first c at limit v f (within, inr none) =
-    record { volume = omega (arith, at, limit, v, within, none); first = omega (arith, limit, f, within); count = omega (arith, limit, within) }
+first_numbers run volume first c at limit v f is =
+    record { volume = omega (arith, is.0, is.1); first = omega (arith, is.0); count = omega (arith, is.0) }
 
 next_at : (run : PlainRun) (volume first count : ℕ) (counts : List VolumeCount) → volume ≤ first + 1 → IsCount run first count
     → (counts ≡ []) ⊎ (first + count < run.blocks) → (counts ≡ []) ⊎ (volume + 1 ≤ first + count + 1)
@@ -44,11 +31,9 @@ numbers_from run volume first (c ∷ counts) limit (inr at) v =
 pub volumes_numbers : (run : PlainRun) (counts : List VolumeCount) → IsRun run → AreVolumes run 1 0 counts → All AreNumbers counts
 volumes_numbers run counts is v = numbers_from run 1 0 counts is.blocks (inr (omega arith)) v
 
--- one more volume after the checkpoint
-at_next : (volume first : ℕ) (c : VolumeCount) (counts : List VolumeCount) → c.volume ≡ volume → c.first ≡ first
-    → checkpoint_after (c.volume + 1) (c.first + c.count) counts ≡ checkpoint_after (volume + 1) (first + c.count) counts
-at_next volume first c counts v f =
-    ap (λ w. checkpoint_after (w + 1) (c.first + c.count) counts) v ∙ ap (λ g. checkpoint_after (volume + 1) (g + c.count) counts) f
+some_left : {A : Type 0} {n m : ℕ} → (A → ⊥) → A ⊎ (n < m) → n < m
+some_left none (inl a) = absurd (none a)
+some_left none (inr some) = some
 
 -- what a count says that follows these
 pub record Follows (run : PlainRun) (counts : List VolumeCount) (at : ℕ × ℕ) (c : VolumeCount) : Type 0 where
@@ -57,52 +42,36 @@ pub record Follows (run : PlainRun) (counts : List VolumeCount) (at : ℕ × ℕ
   pub count : IsCount run at.1 c.count
   pub left : (counts ≡ []) ⊎ (at.1 < run.blocks)
 
-behind_some : (run : PlainRun) (first at : ℕ) (c : VolumeCount) (counts : List VolumeCount) → (c ∷ counts ≡ []) ⊎ (at < run.blocks) → at < run.blocks
-behind_some run first at c counts (inl none) = absurd (omega (arith, ap length none))
-behind_some run first at c counts (inr some) = some
-
-first_left : (run : PlainRun) (volume first : ℕ) (counts : List VolumeCount) (c : VolumeCount) → AreVolumes run volume first (counts ++ c ∷ []) → (counts ≡ []) ⊎ (first < run.blocks)
-    → (checkpoint_after volume first counts).1 < run.blocks → first < run.blocks
-first_left run volume first [] c v other some = some
-first_left run volume first (d ∷ counts) c v (inl none) some = absurd (omega (arith, ap length none))
-first_left run volume first (d ∷ counts) c v (inr less) some = less
-
 blocks_left : (run : PlainRun) (volume first : ℕ) (counts : List VolumeCount) → (counts ≡ []) ⊎ (first < run.blocks)
     → (checkpoint_after volume first counts).1 < run.blocks → first < run.blocks
 blocks_left run volume first [] other some = some
-blocks_left run volume first (d ∷ counts) (inl none) some = absurd (omega (arith, ap length none))
-blocks_left run volume first (d ∷ counts) (inr less) some = less
+blocks_left run volume first (d ∷ counts) other some = some_left (λ none. cc) other
 
 pub volumes_more : (run : PlainRun) (volume first : ℕ) (counts : List VolumeCount) (c : VolumeCount) → AreVolumes run volume first counts
     → Follows run counts (checkpoint_after volume first counts) c → AreVolumes run volume first (counts ++ c ∷ [])
 volumes_more run volume first [] c v f = (f.volume, f.first, f.count, inl refl, tt)
 volumes_more run volume first (d ∷ counts) c v f =
-    let at = at_next volume first d counts v.0 v.1 in
-    let some = behind_some run first (checkpoint_after (d.volume + 1) (d.first + d.count) counts).1 d counts f.left in
-    let less : (checkpoint_after (volume + 1) (first + d.count) counts).1 < run.blocks = subst (λ p. p.1 < run.blocks) at some in
-    let rest : Follows run counts (checkpoint_after (volume + 1) (first + d.count) counts) c =
-    subst (λ p. Follows run counts p c) at (record { volume = f.volume; first = f.first; count = f.count; left = inr some }) in
-    (v.0, v.1, v.2, inr (blocks_left run (volume + 1) (first + d.count) counts v.3 less), volumes_more run (volume + 1) (first + d.count) counts c v.4 rest)
-
-some_behind : (run : PlainRun) (first : ℕ) (counts : List VolumeCount) (c : VolumeCount) → (counts ++ c ∷ [] ≡ []) ⊎ (first < run.blocks) → first < run.blocks
-some_behind run first counts c (inl none) = absurd (omega (arith, ap length none, length-append counts (c ∷ [])))
-some_behind run first counts c (inr some) = some
+    let g = rw (v.0, v.1) at f in
+    let some = some_left (λ none. cc) g.left in (
+      v.0,
+      v.1,
+      v.2,
+      inr (blocks_left run (volume + 1) (first + d.count) counts v.3 some),
+      volumes_more run (volume + 1) (first + d.count) counts c v.4 (record { volume = g.volume; first = g.first; count = g.count; left = inr some }),
+    )
 
 left_there : (run : PlainRun) (volume first : ℕ) (counts : List VolumeCount) (c : VolumeCount) → first < run.blocks
     → Follows run counts (checkpoint_after volume first counts) c → (checkpoint_after volume first counts).1 < run.blocks
 left_there run volume first [] c some f = some
-left_there run volume first (d ∷ counts) c some f = behind_some run first (checkpoint_after volume first (d ∷ counts)).1 d counts f.left
+left_there run volume first (d ∷ counts) c some f = some_left (λ none. cc) f.left
 
 pub volumes_last : (run : PlainRun) (volume first : ℕ) (counts : List VolumeCount) (c : VolumeCount) → AreVolumes run volume first (counts ++ c ∷ [])
     → Follows run counts (checkpoint_after volume first counts) c
 volumes_last run volume first [] c v = record { volume = v.0; first = v.1; count = v.2; left = inl refl }
 volumes_last run volume first (d ∷ counts) c v =
-    let at = at_next volume first d counts v.0 v.1 in
     let f = volumes_last run (volume + 1) (first + d.count) counts c v.4 in
-    let some : (checkpoint_after (volume + 1) (first + d.count) counts).1 < run.blocks =
-    left_there run (volume + 1) (first + d.count) counts c (some_behind run (first + d.count) counts c v.3) f in
-    let g : Follows run counts (checkpoint_after (d.volume + 1) (d.first + d.count) counts) c = subst (λ p. Follows run counts p c) (sym at) f in
-    record { volume = g.volume; first = g.first; count = g.count; left = inr (subst (λ p. p.1 < run.blocks) (sym at) some) }
+    let some = some_left (λ none. omega (arith, ap length none, length-append counts (c ∷ []))) v.3 in
+    rw (v.0, v.1) (record { volume = f.volume; first = f.first; count = f.count; left = inr (left_there run (volume + 1) (first + d.count) counts c some f) })
 
 -- those that begin volumes in order are in order
 pub volumes_begun : (run : PlainRun) (volume first : ℕ) (counts more : List VolumeCount) → AreVolumes run volume first (counts ++ more) → AreVolumes run volume first counts
@@ -112,8 +81,7 @@ volumes_begun run volume first (c ∷ counts) more v =
   where
     begun_left : (cs : List VolumeCount) → (cs ++ more ≡ []) ⊎ (first + c.count < run.blocks) → (cs ≡ []) ⊎ (first + c.count < run.blocks)
     begun_left [] left = inl refl
-    begun_left (d ∷ ds) (inl none) = absurd (omega (arith, ap length none))
-    begun_left (d ∷ ds) (inr some) = inr some
+    begun_left (d ∷ ds) left = inr (some_left (λ none. cc) left)
 
 -- the checkpoint is after the last count
 checkpoint_behind : (volume first : ℕ) (rest : List VolumeCount) (c : VolumeCount) → checkpoint_after volume first (rest ++ c ∷ []) ≡ (c.volume + 1, c.first + c.count)
@@ -131,9 +99,6 @@ pub record IsUpTo (run : PlainRun) (counts : List VolumeCount) (at first : ℕ) 
   pub volumes : AreVolumes run 1 0 (take at counts)
   pub next : checkpoint_of (take at counts) ≡ (at + 1, first)
   pub within : first ≤ run.blocks
-
-pub up_to_none : (run : PlainRun) (counts : List VolumeCount) → IsUpTo run counts 0 0
-up_to_none run counts = record { volumes = tt; next = refl; within = omega arith }
 
 more_taken : (counts : List VolumeCount) (at : ℕ) (c : VolumeCount) → at < length counts → c ≡ get_or counts at c → take (at + 1) counts ≡ take at counts ++ c ∷ []
 more_taken counts at c there is =
@@ -175,39 +140,31 @@ not_next run counts at first c there is up other volumes =
 -- a text whose lines have their shape, and which of its lines is at fault
 pub whole_text : (bytes rest : List ℕ) (run : PlainRun) (counts : List VolumeCount) → bytes ≡ joined (run_lines run) ++ rest → rest ≡ joined (map count_line counts)
     → bytes ≡ checkpoint_text run counts
-whole_text bytes rest run counts is more =
-    is ∙ ap (λ l. joined (run_lines run) ++ l) more ∙ sym (flat_map-append (λ l. l ++ 10 ∷ []) (run_lines run) (map count_line counts))
-
-pub bad_count : (bytes rest : List ℕ) (run : PlainRun) (n : ℕ) → IsRun run → bytes ≡ joined (run_lines run) ++ rest → HasBadCount rest n → HasBadLine bytes n
-bad_count bytes rest run n limits is b =
-    let lines = checkpoint_lines run b.counts in
-    let many : length lines ≡ 8 + length b.counts = omega (arith, length-append (run_lines run) (map count_line b.counts), length-map b.counts count_line) in
-    let number = b.number in
-    record {
-      before = lines;
-      rest = b.rest;
-      split = is ∙ ap (λ l. joined (run_lines run) ++ l) b.split ∙ sym (append_assoc (joined (run_lines run)) (joined (map count_line b.counts)) b.rest)
-          ∙ ap (λ l. l ++ b.rest) (sym (flat_map-append (λ l. l ++ 10 ∷ []) (run_lines run) (map count_line b.counts)));
-      good = all_good run b.counts limits b.good;
-      bad = subst (λ k. LacksLine k b.rest) (sym (past_head head lines (omega (arith, many)))) b.bad;
-      number = omega (arith, many, number);
-    }
+whole_text bytes rest run counts is more = simp (is, more, flat_map-append)
 
 pub refused_counts : (bytes rest : List ℕ) (run : PlainRun) (fault : ResumeFault) → IsRun run → bytes ≡ joined (run_lines run) ++ rest → AreCounts rest (Err fault)
     → HasResumeFault bytes fault
-refused_counts bytes rest run (BadLine n) limits is bad = bad_count bytes rest run n limits is bad
+refused_counts bytes rest run (BadLine n) limits is b =
+    let lines = checkpoint_lines run b.counts in
+    let many : length lines ≡ 8 + length b.counts = omega (arith, length-append (run_lines run) (map count_line b.counts), length-map b.counts count_line) in
+    record {
+      before = lines;
+      rest = b.rest;
+      split = is ∙ ap (λ l. joined (run_lines run) ++ l) b.split ∙ sym (append_assoc (joined (run_lines run)) _ b.rest)
+          ∙ ap (λ l. l ++ b.rest) (whole_text _ _ run b.counts refl refl);
+      good = all_good run b.counts limits b.good;
+      bad = subst (λ k. LacksLine k b.rest) (sym (past_head head lines (omega (arith, many)))) b.bad;
+      number = omega (arith, many, b.number);
+    }
 refused_counts bytes rest run (NotInOrder n) limits is bad = absurd bad
 refused_counts bytes rest run OutOfMemory limits is bad = tt
-
-drops_at : (counts : List VolumeCount) (n : ℕ) (c : VolumeCount) → n < length counts → counts ≡ take n counts ++ get_or counts n c ∷ drop (suc n) counts
-drops_at counts n c there = sym (take-append-drop n counts) ∙ ap (λ l. take n counts ++ l) (drop-cons counts n c there)
 
 pub out_of_order : (bytes : List ℕ) (run : PlainRun) (counts : List VolumeCount) (n : ℕ) → IsRun run → All AreNumbers counts → bytes ≡ checkpoint_text run counts
     → AreOrdered run counts n → n < length counts → HasLineOutOfOrder bytes (8 + n + 1)
 out_of_order bytes run counts n limits few is o there =
     let none = zero_count in
     let c = get_or counts n none in
-    let all = drops_at counts n none there in
+    let all : counts ≡ take n counts ++ c ∷ drop (suc n) counts = sym (take-append-drop n counts) ∙ ap (λ l. take n counts ++ l) (drop-cons counts n none there) in
     let one : suc n ≡ n + 1 = omega arith in
     let taken : take (n + 1) counts ≡ take n counts ++ c ∷ [] = ap (λ m. take m counts) (sym one) ∙ take-suc counts n none there in
     record {
@@ -228,33 +185,23 @@ pub line_more : (old text now new line : List ℕ) (counts : List VolumeCount) (
     → now ≡ old ++ (text ++ joined (map count_line (take i counts))) → new ≡ now ++ line → line ≡ count_line c ++ 10 ∷ []
     → new ≡ old ++ (text ++ joined (map count_line (take (i + 1) counts)))
 line_more old text now new line counts i c there is before more its =
-    let so_far = joined (map count_line (take i counts)) in
-    let lines : joined (map count_line (take (i + 1) counts)) ≡ so_far ++ line =
-    ap (λ l. joined (map count_line l)) (more_taken counts i c there is) ∙ ap joined (map-append count_line (take i counts) (c ∷ []))
-    ∙ flat_map-append (λ l. l ++ 10 ∷ []) (map count_line (take i counts)) (count_line c ∷ [])
-    ∙ ap (λ l. so_far ++ l) (append-nil (count_line c ++ 10 ∷ [])) ∙ ap (λ l. so_far ++ l) (sym its) in
-    more ∙ ap (λ l. l ++ line) before ∙ append_assoc old (text ++ so_far) line
-    ∙ ap (λ l. old ++ l) (append_assoc text so_far line ∙ ap (λ l. text ++ l) (sym lines))
+    let taken = more_taken counts i c there is in
+    simp (more, before, its, taken, map-append, flat_map-append, append-nil, append_assoc)
 
 pub all_in_order : (run : PlainRun) (counts : List VolumeCount) (n : ℕ) → AreOrdered run counts n → length counts ≤ n → AreVolumes run 1 0 counts
 all_in_order run counts n o many = subst (AreVolumes run 1 0) (take_all n counts many) o.1
 
 -- one text, one run and one list
-pub one_run : (bytes : List ℕ) (r s : PlainRun) (counts others : List VolumeCount) → SpellsCheckpoint bytes r counts → SpellsCheckpoint bytes s others → r ≡ s
-one_run bytes r s counts others a b =
-    same_run r s counts others a.limits b.limits (volumes_numbers r counts a.limits a.in_order) (volumes_numbers s others b.limits b.in_order) (sym a.text ∙ b.text)
-
-pub one_list : (bytes : List ℕ) (r s : PlainRun) (counts others : List VolumeCount) → SpellsCheckpoint bytes r counts → SpellsCheckpoint bytes s others → counts ≡ others
-one_list bytes r s counts others a b =
-    same_counts r s counts others a.limits b.limits (volumes_numbers r counts a.limits a.in_order) (volumes_numbers s others b.limits b.in_order) (sym a.text ∙ b.text)
+pub one_checkpoint : (bytes : List ℕ) (r s : PlainRun) (counts others : List VolumeCount) → SpellsCheckpoint bytes r counts → SpellsCheckpoint bytes s others
+    → (r ≡ s) × (counts ≡ others)
+one_checkpoint bytes r s counts others a b =
+    same_text r s counts others a.limits b.limits (volumes_numbers r counts a.limits a.in_order) (volumes_numbers s others b.limits b.in_order) (sym a.text ∙ b.text)
 
 in_order_there : (r : PlainRun) (counts : List VolumeCount) (n : ℕ) (bytes : List ℕ) → SpellsCheckpoint bytes r counts → HasLineOutOfOrder bytes n → ⊥
 in_order_there r counts n bytes a b =
-    let all = b.before ++ b.count ∷ b.after in
-    let run : r ≡ b.run = same_run r b.run counts all a.limits b.limits (volumes_numbers r counts a.limits a.in_order) b.numbers (sym a.text ∙ b.spelled) in
-    let list : counts ≡ all = same_counts r b.run counts all a.limits b.limits (volumes_numbers r counts a.limits a.in_order) b.numbers (sym a.text ∙ b.spelled) in
-    let there : AreVolumes b.run 1 0 all = subst (λ l. AreVolumes b.run 1 0 l) list (subst (λ x. AreVolumes x 1 0 counts) run a.in_order) in
-    b.bad (volumes_begun b.run 1 0 (b.before ++ b.count ∷ []) b.after (subst (λ l. AreVolumes b.run 1 0 l) (sym (append_assoc b.before (b.count ∷ []) b.after)) there))
+    let same = same_text r b.run counts (b.before ++ b.count ∷ b.after) a.limits b.limits (volumes_numbers r counts a.limits a.in_order) b.numbers (sym a.text ∙ b.spelled) in
+    let there : AreVolumes b.run 1 0 (b.before ++ b.count ∷ b.after) = rw (← same.1, ← same.0) a.in_order in
+    b.bad (volumes_begun b.run 1 0 (b.before ++ b.count ∷ []) b.after (rw append_assoc there))
 
 pub one_fault : (bytes : List ℕ) (r : PlainRun) (counts : List VolumeCount) (fault : ResumeFault) → SpellsCheckpoint bytes r counts → HasResumeFault bytes fault
     → fault ≡ OutOfMemory

@@ -1,12 +1,6 @@
 -- Lines that were read, and the first that is bad.
-use Rattle.std.proofs.Common.{◌≡◌, ◌≢◌, ℕ, ◌+◌, List, [], ◌∷◌, ◌++◌, length, codes, None, refl, sym, ap, ◌∙◌, append_assoc}
-use Rattle.std.proofs.lemmas.List.{append-nil}
-use Rattle.std.proofs.lemmas.List.Concat.{flat_map-append}
-use Rattle.dumpdates.specs.Entry.{IsName}
-use Rattle.dump_run.specs.Run.{IsDevice}
-use Rattle.dump_run.specs.Checkpoint.{Kind, head, joined, IsNumberLine, IsLineOf, AreLinesOf, kind_after, LacksLine, HasBadLine}
-use Rattle.dump_run.specs.Checkpoint.Kind.{Title, Device, Name, Counted}
-use Rattle.dump_run.specs.CheckpointParts.{FindsText, FindsNumber, FindsCount, FindsTitle}
+use Rattle.std.proofs.Common.{◌≡◌, ℕ, ◌+◌, List, [], ◌∷◌, ◌++◌, length, codes, decimal, None, refl, sym, ap, ◌∙◌, append_assoc}
+use Rattle.dump_run.proofs.Words.{IsInRange, append-nil, flat_map-append, IsName, IsDevice, Kind, head, joined, IsNumberLine, IsLineOf, AreLinesOf, kind_after, LacksLine, HasBadLine, Title, Device, Name, Counted, FindsText, FindsNumber, FindsTitle}
 
 -- these lines were read, each of its kind
 pub record IsRead (bytes : List ℕ) (before : List (List ℕ)) (rest : List ℕ) : Type 0 where
@@ -40,19 +34,22 @@ pub bad_line : {bytes : List ℕ} {before : List (List ℕ)} {rest : List ℕ} (
     → n ≡ length before + 1 → HasBadLine bytes n
 bad_line {bytes} {before} {rest} n r lacks is = record { before = before; rest = rest; split = r.split; good = r.good; bad = lacks; number = is }
 
--- the title, the device and the name
-pub read_title : (bytes rest : List ℕ) → bytes ≡ codes "rdump 1" ++ 10 ∷ rest → IsRead bytes (codes "rdump 1" ∷ []) rest
-read_title bytes rest is = then_line (codes "rdump 1") rest (nothing_read bytes) refl is
+-- the title, the device, the name and a number
+pub then_title : (bytes rest : List ℕ) → bytes ≡ codes "rdump 1" ++ 10 ∷ rest → IsRead bytes (codes "rdump 1" ∷ []) rest
+then_title bytes rest is = then_line (codes "rdump 1") rest (nothing_read bytes) refl is
 
-pub read_device : (bytes first device rest : List ℕ) → bytes ≡ codes "rdump 1" ++ 10 ∷ first → IsDevice device → first ≡ (codes "device " ++ device) ++ 10 ∷ rest
-    → IsRead bytes (codes "rdump 1" ∷ (codes "device " ++ device) ∷ []) rest
-read_device bytes first device rest title its is = then_line (codes "device " ++ device) rest (read_title bytes first title) (device, its, refl) is
+pub then_device : {bytes first : List ℕ} (device rest : List ℕ) → IsRead bytes (codes "rdump 1" ∷ []) first
+    → IsDevice device × (first ≡ (codes "device " ++ device) ++ 10 ∷ rest) → IsRead bytes (codes "rdump 1" ∷ (codes "device " ++ device) ∷ []) rest
+then_device device rest r found = then_line (codes "device " ++ device) rest r (device, found.0, refl) found.1
 
-pub read_texts : (bytes first device second name rest : List ℕ) → bytes ≡ codes "rdump 1" ++ 10 ∷ first → IsDevice device
-    → first ≡ (codes "device " ++ device) ++ 10 ∷ second → IsName name → second ≡ (codes "fs " ++ name) ++ 10 ∷ rest
-    → IsRead bytes (codes "rdump 1" ∷ (codes "device " ++ device) ∷ (codes "fs " ++ name) ∷ []) rest
-read_texts bytes first device second name rest title its is named there =
-    then_line (codes "fs " ++ name) rest (read_device bytes first device second title its is) (name, named, refl) there
+pub then_name : {bytes first : List ℕ} {device : List ℕ} (name rest : List ℕ) → IsRead bytes (codes "rdump 1" ∷ device ∷ []) first
+    → IsName name × (first ≡ (codes "fs " ++ name) ++ 10 ∷ rest) → IsRead bytes (codes "rdump 1" ∷ device ∷ (codes "fs " ++ name) ∷ []) rest
+then_name name rest r found = then_line (codes "fs " ++ name) rest r (name, found.0, refl) found.1
+
+pub then_number : {bytes rest : List ℕ} {before : List (List ℕ)} {least most : ℕ} (word : List ℕ) (n : ℕ) (more : List ℕ) → IsRead bytes before rest
+    → (IsNumberLine word least most (word ++ decimal n) → IsLineOf (kind_after head before) (word ++ decimal n))
+    → IsInRange least most n × (rest ≡ (word ++ decimal n) ++ 10 ∷ more) → IsRead bytes (before ++ (word ++ decimal n) ∷ []) more
+then_number word n more r says found = then_line (word ++ decimal n) more r (says (n, found.0, refl)) found.1
 
 pub lacks_title : (bytes : List ℕ) → FindsTitle bytes None → LacksLine Title bytes
 lacks_title bytes found = (found, λ is. cc)
@@ -67,6 +64,3 @@ pub lacks_number : (kind : Kind) (word : List ℕ) (least most : ℕ) (bytes : L
     → (kind ≡ Counted → ⊥) → FindsNumber word least most bytes None → LacksLine kind bytes
 lacks_number kind word least most bytes says other found =
     (λ line more its is. (let n = says line its in found n.0 more n.1 (is ∙ ap (λ l. l ++ 10 ∷ more) n.2)), λ is. absurd (other is))
-
-pub lacks_count : (bytes : List ℕ) → bytes ≢ [] → FindsCount bytes None → LacksLine Counted bytes
-lacks_count bytes some found = (λ line more its is. found its.0 more its.1 (is ∙ ap (λ l. l ++ 10 ∷ more) its.2), λ _. some)

@@ -11,6 +11,7 @@ use crate::lines::TextLines;
 pub const LABEL_BYTES: usize = 1024;
 
 /// Returns the lines of the label of volume `volume`, which begins at block `first`.
+#[tactic(auto, using(std::proofs::Common::append_assoc))]
 fn lines_of(run: &Run, volume: u32, first: u32) -> TextLines
     ensures { result ≡ label_lines run.now volume first }
 {

@@ -28,6 +28,7 @@ pub fn one_checkpoint()
 /// valid, and contains the run's and the volume's values.
 ///
 /// The function does nothing: its contract is a law of the definitions.
+#[tactic(auto, using(crate::proofs::LabelReading::one_record))]
 pub fn one_label()
     // Two labels with different values are different records.
     ensures one { (l m : PlainLabel) → IsLabel l → IsLabel m → label_record l ≡ label_record m → l ≡ m }

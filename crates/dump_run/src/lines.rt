@@ -63,6 +63,7 @@ impl TextLines {
     }
 
     // Appends a line of a keyword, a space and a text.
+    #[tactic(auto, using(std::proofs::Common::append_assoc))]
     pub(crate) fn push_line(&mut self, word: &str, text: &[u8])
         requires { length self.old + length word.now + length text.now + 2 ≤ label_bytes }
         ensures line { self.new ≡ self.old ++ line_of word.now text.now }

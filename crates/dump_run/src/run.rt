@@ -56,6 +56,7 @@ impl Clone for Run {
 }
 
 /// Whether the bytes are a device: 1 to 255 bytes without a line feed.
+#[tactic(auto, using(std::proofs::lemmas::Grind::elements))]
 pub(crate) fn is_device(device: &[u8]) -> bool
     ensures { IsTrue result ↔ IsDevice device.now }
 {
@@ -101,6 +102,7 @@ impl Run {
     /// - `blocks`: the number of blocks, up to `BLOCKS_LIMIT`.
     ///
     /// Returns the fault of the first of these limits that is broken, in the order of `RunFault`.
+    #[tactic(auto, using(crate::proofs::Limits::id_of_run))]
     pub fn new(
         device: &[u8],
         fs: &str,

@@ -1,17 +1,7 @@
 -- What is written of entries spells them.
 use Rattle.std.proofs.Common.{◌≡◌, ℕ, suc, zero, ◌+◌, ◌-◌, ◌/◌, ◌%◌, ◌<◌, ◌≤◌, Bool, true, false, cond, ltb, List, [], ◌∷◌, ◌++◌, length, replicate, decimal, refl, sym, ap, ◌∙◌, arith, append_assoc, pos, ◌≤ℤ◌, unsigned_abs, inl, inr}
-use Rattle.std.specs.Str.Parse.{AllDigits, digits_value}
-use Rattle.std.proofs.lemmas.Bool.{ltb-true, cases_lt, cond_both}
-use Rattle.std.proofs.lemmas.List.{append-nil}
-use Rattle.std.proofs.lemmas.Fmt.{decimal_is_IsNumeral, length-decimal-le}
-use Rattle.jiff_core.specs.Calendar.{days_from_civil, weekday_number}
-use Rattle.jiff_core.proofs.CalendarLemmas.{days_in_month_bounds, weekday_number_bound}
-use Rattle.jiff_core.proofs.SignedLemmas.{signed_arith}
-use Rattle.dumpdates.specs.Entry.{DatesEntry, IsEntry, last_second}
-use Rattle.dumpdates.specs.Line.{IsGap, AreParted, PlainWords, word_list, PlainFields, SpellsDigits, IsWeekday, SpellsTime, SpellsWords, SpellsLine}
-use Rattle.dumpdates.specs.Moment.{PlainMoment, IsMoment, day_numbered, moment_of, seconds_at}
-use Rattle.dumpdates.specs.Names.{weekday_name, month_name}
-use Rattle.dumpdates.specs.Text.{space, digit, two_digits, day_text, time_text, ctime_text, padded_name}
+use Rattle.dumpdates.proofs.Terms.{AllDigits, digits_value, ltb-true, cases_lt, cond_both, append-nil, decimal_is_IsNumeral, length-decimal-le, days_from_civil, weekday_number, days_in_month_bounds, weekday_number_bound, signed_arith, DatesEntry, IsEntry, last_second, IsGap, AreParted, PlainWords}
+use Rattle.dumpdates.proofs.Terms.{word_list, PlainFields, SpellsDigits, IsWeekday, SpellsTime, SpellsWords, SpellsLine, PlainMoment, IsMoment, day_numbered, moment_of, seconds_at, weekday_name, month_name, space, digit, two_digits, day_text, time_text, ctime_text, padded_name}
 use Rattle.dumpdates.proofs.Days.{is_numbered, days_from_1970}
 use Rattle.dumpdates.proofs.Digits.{below_power, digit_known}
 
@@ -86,18 +76,15 @@ unfolding day_gap
 day_is_gap true = (omega arith, (refl, (refl, tt)))
 day_is_gap false = (omega arith, (refl, tt))
 
-widen : (text : List ℕ) (n : ℕ) → SpellsDigits 1 1 text n → SpellsDigits 1 2 text n
-widen text n s = let many = s.count.1 in record { digits = s.digits; count = (s.count.0, omega arith); value = s.value }
-
-widen_two : (text : List ℕ) (n : ℕ) → SpellsDigits 2 2 text n → SpellsDigits 1 2 text n
-widen_two text n s = let few = s.count.0 in record { digits = s.digits; count = (omega arith, s.count.1); value = s.value }
+widen : (least most : ℕ) (text : List ℕ) (n : ℕ) → 1 ≤ least → most ≤ 2 → SpellsDigits least most text n → SpellsDigits 1 2 text n
+widen least most text n low high s = record { digits = s.digits; count = (omega (arith, s.count.0), omega (arith, s.count.1)); value = s.value }
 
 day_spelled : (n : ℕ) → n < 100 → SpellsDigits 1 2 (day_word (ltb n 10) n) n
 unfolding day_word
 day_spelled n small =
     cond_both (ltb n 10) (digit n ∷ []) (two_digits n) (λ t. SpellsDigits 1 2 t n)
-    (λ few. widen (digit n ∷ []) n (one_digit n (ltb-true _ _ few)))
-    (λ many. widen_two (two_digits n) n (two_spelled n small))
+    (λ few. widen 1 1 (digit n ∷ []) n (omega arith) (omega arith) (one_digit n (ltb-true _ _ few)))
+    (λ many. widen 2 2 (two_digits n) n (omega arith) (omega arith) (two_spelled n small))
 
 time_spelled : (m : PlainMoment) → IsMoment m → SpellsTime (time_text m) m.hour m.minute m.second
 time_spelled m i =

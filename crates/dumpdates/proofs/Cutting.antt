@@ -1,10 +1,16 @@
 -- A line falls into words in one way, and so it is cut from its front.
 use Rattle.std.proofs.Common.{◌≡◌, ℕ, suc, ◌+◌, ◌<◌, Bool, true, false, not, cond, List, [], ◌∷◌, ◌++◌, length, take, drop, refl, sym, ap, ◌∙◌, subst, arith, append_assoc}
-use Rattle.std.specs.List.{AllByRecursion, prefix_len, position_or_len}
-use Rattle.std.proofs.lemmas.Bool.{not-true, both_ways}
-use Rattle.std.proofs.lemmas.List.{take-append-drop, append-nil}
-use Rattle.dumpdates.specs.Front.{after_spaces, first_word, after_word}
-use Rattle.dumpdates.specs.Line.{is_space, AreSpaces, IsGap, AreParted, IsLineOfWords}
+use Rattle.dumpdates.proofs.Terms.{AllByRecursion, prefix_len, position_or_len, not-true, both_ways, take-append-drop, append-nil, after_spaces, first_word, after_word, is_space, AreSpaces, IsGap, AreParted, IsLineOfWords}
+
+-- what is so of each element of two lists is so of each element of both
+pub all_joined : {X : Type 0} (P : X → Type 0) (a b : List X) → AllByRecursion P a → AllByRecursion P b → AllByRecursion P (a ++ b)
+all_joined P [] b s t = t
+all_joined P (x ∷ a) b s t = (s.0, all_joined P a b s.1 t)
+
+-- and so is what follows from it
+pub all_weaker : (P Q : ℕ → Type 0) → ((b : ℕ) → P b → Q b) → (text : List ℕ) → AllByRecursion P text → AllByRecursion Q text
+all_weaker P Q follows [] h = tt
+all_weaker P Q follows (b ∷ text) h = (follows b h.0, all_weaker P Q follows text h.1)
 
 -- each byte passes
 abbrev pub AllPass : (ℕ → Bool) → List ℕ → Type 0
@@ -105,14 +111,10 @@ gap_ends : (gap rest : List ℕ) → IsGap gap → EndsWord (gap ++ rest)
 gap_ends [] rest g = absurd (omega (arith, g.0))
 gap_ends (b ∷ gap) rest g = ap not g.1.0
 
-spaces_joined : (a b : List ℕ) → AreSpaces a → AreSpaces b → AreSpaces (a ++ b)
-spaces_joined [] b s t = t
-spaces_joined (x ∷ a) b s t = (s.0, spaces_joined a b s.1 t)
-
 -- words that are parted by gaps are cut off one after the other
 parted_is_cut : (words : List (List ℕ)) (before text after : List ℕ) → AreWords words → AreSpaces before → AreSpaces after → AreParted text words
     → IsCutInto (before ++ (text ++ after)) words
-parted_is_cut [] before text after w b a e = subst (λ t. AreSpaces (before ++ (t ++ after))) (sym e) (spaces_joined before after b a)
+parted_is_cut [] before text after w b a e = subst (λ t. AreSpaces (before ++ (t ++ after))) (sym e) (all_joined (λ b. is_space b ≡ true) before after b a)
 parted_is_cut (word ∷ []) before text after w b a e =
     let cut = cut_front before word after b w.0 (spaces_end after a) in
     subst (λ t. IsCutInto (before ++ (t ++ after)) (word ∷ [])) (sym e) (cut.0, subst AreSpaces (sym cut.1) a)

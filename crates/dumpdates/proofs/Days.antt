@@ -1,15 +1,10 @@
 -- Day numbers, and the days that come one after another from 1 January 1970 on.
 use Rattle.std.proofs.Common.{◌≡◌, ℕ, zero, suc, ◌+◌, ◌/◌, ◌%◌, ◌<◌, ◌≤◌, ltb, refl, sym, subst, ◌∙◌, arith, ℤ, pos, ◌+ℤ◌, ◌≤ℤ◌, unsigned_abs}
-use Rattle.std.proofs.lemmas.Bool.{ltb-true, ltb-false, cond_both}
+use Rattle.dumpdates.proofs.Terms.{ltb-true, ltb-false, cond_both, day_count, days_in_month, days_from_civil, IsCivilDate, epoch_day, signed_arith, one_part, day_count-epoch, day_count-end, day_count-day, day_count-day_of_year, day_count-next_month}
+use Rattle.dumpdates.proofs.Terms.{day_count-next_year, day_count-last_of_year, day_count-later_year, day_count_bounds, days_in_month_bounds, days_from_civil-day_count, last_second, Day, PlainMoment, day_after, day_numbered, IsMoment, seconds_at}
 use Rattle.std.proofs.lemmas.Int.{by_lt_z}
 use Rattle.jiff_core.specs.declared.civil.date.Date.{Date}
-use Rattle.jiff_core.specs.Calendar.{day_count, days_in_month, days_from_civil, IsCivilDate}
-use Rattle.jiff_core.specs.Date.{epoch_day}
-use Rattle.jiff_core.proofs.SignedLemmas.{signed_arith, one_part}
-use Rattle.jiff_core.proofs.CalendarLemmas.{day_count-epoch, day_count-end, day_count-day, day_count-day_of_year, day_count-next_month, day_count-next_year, day_count-last_of_year, day_count-later_year, day_count_bounds, days_in_month_bounds, days_from_civil-day_count}
 use Rattle.jiff_core.proofs.DateLemmas.{civil, epoch_day_injective}
-use Rattle.dumpdates.specs.Entry.{last_second}
-use Rattle.dumpdates.specs.Moment.{Day, PlainMoment, day_after, day_numbered, IsMoment, seconds_at}
 
 -- the day of this number, on the calendar of `jiff`
 pub record IsNumbered (n : ℕ) (d : Day) : Type 0 where

@@ -1,20 +1,7 @@
 -- Each line is blank, an entry or bad, and so each text spells entries or has a first bad line.
 use Rattle.std.proofs.Common.{◌≡◌, ◌⊎◌, ℕ, suc, ◌+◌, ◌≤◌, Bool, true, false, List, [], ◌∷◌, ◌++◌, length, position, Option, Some, None, bytes_eq, pos, refl, ap, arith, inl, inr}
-use Rattle.std.specs.Int.{IsInRange}
-use Rattle.std.specs.List.{AllByRecursion, list_any}
-use Rattle.std.specs.Char.{digit_value}
-use Rattle.std.specs.Str.Parse.{AllDigits, digits_value}
-use Rattle.std.proofs.lemmas.Bool.{cases_lt, false≢true}
-use Rattle.jiff_core.specs.Calendar.{days_in_month}
-use Rattle.jiff_core.proofs.SignedLemmas.{signed_arith}
-use Rattle.dumpdates.specs.Entry.{DatesEntry, IsName, AreEntries}
-use Rattle.dumpdates.specs.Front.{words_of}
-use Rattle.dumpdates.specs.Line.{is_space, AreSpaces, PlainWords, PlainFields, SpellsDigits, IsWeekday, SpellsMonth, SpellsTime, SpellsWords, HasShape, IsBadLine, IsBadDate}
-use Rattle.dumpdates.specs.Lines.{lines_of, SpellLines, SpellsDates, IsEntryLine, HasDatesFault}
-use Rattle.dumpdates.specs.Moment.{PlainMoment, IsMoment, seconds_at}
-use Rattle.dumpdates.specs.Names.{weekday_names, month_names}
-use Rattle.dumpdates.specs.Text.{colon}
-use Rattle.dumpdates.specs.declared.fault.DatesFault.TheVariants.{BadLine, BadDate}
+use Rattle.dumpdates.proofs.Terms.{IsInRange, AllByRecursion, list_any, digit_value, AllDigits, digits_value, cases_lt, false≢true, days_in_month, signed_arith, DatesEntry, IsName, AreEntries, words_of, is_space, AreSpaces, PlainWords, PlainFields, SpellsDigits, IsWeekday}
+use Rattle.dumpdates.proofs.Terms.{SpellsMonth, SpellsTime, SpellsWords, HasShape, IsBadLine, IsBadDate, lines_of, SpellLines, SpellsDates, IsEntryLine, HasDatesFault, PlainMoment, IsMoment, seconds_at, weekday_names, month_names, colon, BadLine, BadDate}
 use Rattle.dumpdates.proofs.Naming.{no_month, is_month, is_weekday, weekday_is}
 use Rattle.dumpdates.proofs.Shapes.{no_words, other_words, words_shape, spelled_is_entry}
 use Rattle.dumpdates.proofs.Timing.{spelled_is_time}

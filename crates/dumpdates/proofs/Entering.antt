@@ -1,12 +1,7 @@
 -- What a list of stored entries becomes where one is entered, and the base dates that it gives.
 use Rattle.std.proofs.Common.{◌≡◌, ℕ, suc, ◌+◌, ◌<◌, ◌≤◌, Bool, true, false, not, cond, List, [], ◌∷◌, ◌++◌, length, map, take, drop, filter, position, Option, Some, None, Result, Ok, Err, OnErr, refl, sym, ap, ◌∙◌, arith, add-one, append_assoc, set, length-append, string_bytes}
-use Rattle.std.specs.List.{prefix_len}
-use Rattle.std.proofs.lemmas.Bool.{and_parts, eqb-true, ltb-true, ltb-false}
-use Rattle.std.proofs.lemmas.List.{take_all, drop_all, append-nil, take_more_set, drop-set-lt}
-use Rattle.std.proofs.lemmas.Slice.Eq.{bytes_eq-Decides}
-use Rattle.dumpdates.specs.Entry.{DatesEntry, AreEntries, last_second}
-use Rattle.dumpdates.specs.Dates.{greatest, is_below, base_of, is_same, others, entered}
-use Rattle.dumpdates.specs.Stored.{plain_stored, plain_all, is_other}
+use Rattle.dumpdates.proofs.Terms.{prefix_len, cond_both, and_parts, eqb-true, ltb-true, ltb-false, take_all, drop_all, append-nil, take_more_set, drop-set-lt, bytes_eq-Decides, DatesEntry}
+use Rattle.dumpdates.proofs.Terms.{AreEntries, last_second, greatest, is_below, base_of, is_same, others, entered, plain_stored, plain_all, is_other}
 use Rattle.dumpdates.specs.declared.stored.Stored.{Stored}
 
 take_past : (front later : List Stored) (kept : ℕ) → take (length front + kept) (front ++ later) ≡ front ++ take kept later
@@ -114,13 +109,10 @@ pub stored_entries : (xs : List Stored) → AreEntries (plain_all xs)
 stored_entries [] = tt
 stored_entries (x ∷ xs) = (record { name = x.name_in; level = x.level_in; date = x.date_in }, stored_entries xs)
 
-below_or_not : (b : Bool) (e : DatesEntry) (later : List DatesEntry) → e.date ≤ last_second → greatest (map (λ d. d.date) later) ≤ last_second
-    → greatest (map (λ d. d.date) (cond b (e ∷ later) later)) ≤ last_second
-below_or_not true e later here rest = omega arith
-below_or_not false e later here rest = rest
-
 -- no base date of entries is later than the last second
 pub base_bound : (entries : List DatesEntry) (name : List ℕ) (level : ℕ) → AreEntries entries → base_of entries name level ≤ last_second
 base_bound [] name level h = omega arith
 base_bound (e ∷ entries) name level h =
-    below_or_not (is_below name level e) e (filter (is_below name level) entries) h.0.date (base_bound entries name level h.1)
+    let later = filter (is_below name level) entries in
+    let rest = base_bound entries name level h.1 in
+    cond_both (is_below name level e) (e ∷ later) later (λ l. greatest (map (λ d. d.date) l) ≤ last_second) (λ _. omega (arith, h.0.date)) (λ _. rest)

@@ -1,3 +1,4 @@
+pub mod Terms
 pub mod Days
 pub mod Entering
 pub mod Writing

@@ -1,21 +1,9 @@
 -- What is written of entries falls into a line for each.
 use Rattle.std.proofs.Common.{◌≡◌, ℕ, suc, zero, ◌-◌, ◌/◌, ◌≤◌, true, false, eqb, leb, ltb, List, [], ◌∷◌, ◌++◌, length, replicate, get_or, decimal, refl, sym, ap, ◌∙◌, subst, arith, append_assoc, pos, inl, inr}
-use Rattle.std.specs.Int.{IsInRange}
-use Rattle.std.specs.List.{AllByRecursion, list_all}
-use Rattle.std.specs.Str.Parse.{AllDigits}
-use Rattle.std.proofs.lemmas.Bool.{and_parts, leb-true, ne_eqb, cond_both}
-use Rattle.std.proofs.lemmas.Fmt.{decimal_is_IsNumeral}
-use Rattle.std.proofs.lemmas.List.Elements.{All-from_recursion}
-use Rattle.std.proofs.lemmas.List.Splits.{slice_split_at}
-use Rattle.std.proofs.lemmas.Str.Parse.{digit_from_value}
-use Rattle.jiff_core.specs.Calendar.{weekday_number}
-use Rattle.jiff_core.proofs.CalendarLemmas.{weekday_number_bound}
-use Rattle.dumpdates.specs.Entry.{DatesEntry, IsEntry, AreEntries}
-use Rattle.dumpdates.specs.Lines.{lines_of, SpellLines, SpellsDates}
-use Rattle.dumpdates.specs.Moment.{PlainMoment, moment_of}
-use Rattle.dumpdates.specs.Names.{weekday_names, month_names, weekday_name, month_name}
-use Rattle.dumpdates.specs.Text.{space, colon, line_feed, digit, two_digits, day_text, time_text, ctime_text, padded_name, line_text, written}
+use Rattle.dumpdates.proofs.Terms.{IsInRange, AllByRecursion, list_all, AllDigits, and_parts, leb-true, ne_eqb, cond_both, decimal_is_IsNumeral, All-from_recursion, slice_split_at, digit_from_value, weekday_number, weekday_number_bound, DatesEntry, IsEntry, AreEntries, lines_of}
+use Rattle.dumpdates.proofs.Terms.{SpellLines, SpellsDates, PlainMoment, moment_of, weekday_names, month_names, weekday_name, month_name, space, colon, line_feed, digit, two_digits, day_text, time_text, ctime_text, padded_name, line_text, written}
 use Rattle.dumpdates.proofs.Again.{line_front, front_spelled, moment_is}
+use Rattle.dumpdates.proofs.Cutting.{all_joined, all_weaker}
 use Rattle.dumpdates.proofs.Shapes.{names_at}
 
 -- no byte of it is a control
@@ -23,12 +11,7 @@ abbrev AllVisible : List ℕ → Type 0
 AllVisible text = AllByRecursion (λ b. 32 ≤ b) text
 
 visible_joined : (a b : List ℕ) → AllVisible a → AllVisible b → AllVisible (a ++ b)
-visible_joined [] b s t = t
-visible_joined (x ∷ a) b s t = (s.0, visible_joined a b s.1 t)
-
-visible_name : (name : List ℕ) → AllByRecursion (IsInRange 33 126) name → AllVisible name
-visible_name [] h = tt
-visible_name (b ∷ name) h = (let low = h.0.0 in omega arith, visible_name name h.1)
+visible_joined = all_joined (λ b. 32 ≤ b)
 
 visible_digits : (text : List ℕ) → AllDigits 10 text → AllVisible text
 visible_digits [] h = tt
@@ -89,12 +72,11 @@ visible_date e i =
 visible_front : (e : DatesEntry) → IsEntry e → AllVisible (line_front e)
 visible_front e i =
     visible_joined (padded_name e.name) (space ∷ digit e.level ∷ space ∷ ctime_text e.date)
-    (visible_joined e.name (replicate (32 - length e.name) space) (visible_name e.name i.name.1) (visible_spaces (32 - length e.name)))
+    (visible_joined e.name (replicate (32 - length e.name) space) (all_weaker (IsInRange 33 126) (λ b. 32 ≤ b) (λ b h. omega (arith, h.0)) e.name i.name.1) (visible_spaces (32 - length e.name)))
     (omega arith, (omega arith, (omega arith, visible_date e i)))
 
 no_line_feed : (text : List ℕ) → AllVisible text → AllByRecursion (λ b. eqb b line_feed ≡ false) text
-no_line_feed [] h = tt
-no_line_feed (b ∷ text) h = (ne_eqb b line_feed (λ e. let low = h.0 in absurd (omega arith)), no_line_feed text h.1)
+no_line_feed = all_weaker (λ b. 32 ≤ b) (λ b. eqb b line_feed ≡ false) (λ b low. ne_eqb b line_feed (λ e. absurd (omega (arith, low, e))))
 
 -- the line of an entry is the first line
 first_line_written : (e : DatesEntry) (later : List ℕ) → IsEntry e → lines_of (line_text e ++ later) ≡ line_front e ∷ lines_of later

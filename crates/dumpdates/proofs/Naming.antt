@@ -1,12 +1,6 @@
 -- The names of months and weekdays, as they are looked up.
 use Rattle.std.proofs.Common.{◌≡◌, ℕ, zero, suc, ◌+◌, ◌-◌, ◌<◌, ◌≤◌, Bool, true, List, [], ◌∷◌, length, get_or, position, Some, None, bytes_eq, map, Bor, refl, sym, ap, ◌∙◌, arith, inl, inr}
-use Rattle.std.specs.List.{list_any, position_or_len}
-use Rattle.std.proofs.lemmas.Bool.{ltb-false, both_ways, or_cases, or_left, or_right}
-use Rattle.std.proofs.lemmas.List.Quantifiers.{position-Some}
-use Rattle.std.proofs.lemmas.List.Sums.{fails_before_first}
-use Rattle.std.proofs.lemmas.Slice.Eq.{bytes_eq-Decides}
-use Rattle.dumpdates.specs.Line.{IsWeekday, SpellsMonth}
-use Rattle.dumpdates.specs.Names.{weekday_names, month_names, month_name}
+use Rattle.dumpdates.proofs.Terms.{list_any, position_or_len, ltb-false, both_ways, or_cases, or_left, or_right, position-Some, fails_before_first, bytes_eq-Decides, IsWeekday, SpellsMonth, weekday_names, month_names, month_name}
 use Rattle.dumpdates.proofs.Entering.{none_is}
 
 -- a word that is none of the names

@@ -1,14 +1,7 @@
 -- A text spells one list of entries at most, or has one first bad line.
 use Rattle.std.proofs.Common.{◌≡◌, ◌⊎◌, ℕ, suc, zero, ◌-◌, ◌<◌, Bool, List, [], ◌∷◌, ◌++◌, length, get_or, position, Some, bytes_eq, refl, sym, ap, ◌∙◌, subst, arith, inl, inr}
-use Rattle.std.proofs.lemmas.Bool.{both_ways, not-true}
-use Rattle.dumpdates.specs.Entry.{DatesEntry}
-use Rattle.dumpdates.specs.Front.{first_word, after_word}
-use Rattle.dumpdates.specs.Line.{is_space, AreSpaces, PlainWords, PlainFields, SpellsDigits, SpellsMonth, SpellsWords, HasShape, SpellsLine, IsBadLine, IsBadDate}
-use Rattle.dumpdates.specs.Lines.{lines_of, SpellLines, SpellsDates, IsReached, HasDatesFault}
-use Rattle.dumpdates.specs.Moment.{IsMoment, seconds_at}
-use Rattle.dumpdates.specs.Names.{month_names, month_name}
-use Rattle.dumpdates.specs.declared.fault.DatesFault.{DatesFault}
-use Rattle.dumpdates.specs.declared.fault.DatesFault.TheVariants.{BadLine, BadDate, OutOfMemory}
+use Rattle.dumpdates.proofs.Terms.{both_ways, not-true, DatesEntry, first_word, after_word, is_space, AreSpaces, PlainWords, PlainFields, SpellsMonth, SpellsWords, HasShape, SpellsLine, IsBadLine, IsBadDate}
+use Rattle.dumpdates.proofs.Terms.{lines_of, SpellLines, SpellsDates, IsReached, HasDatesFault, IsMoment, seconds_at, month_names, month_name, DatesFault, BadLine, BadDate, OutOfMemory}
 use Rattle.dumpdates.proofs.Cutting.{AllPass, IsWord, is_cut}
 use Rattle.dumpdates.proofs.Shapes.{are_words, cut_words, shape_words, some_same}
 use Rattle.dumpdates.proofs.Timing.{spelled_is_time}
@@ -62,25 +55,19 @@ one_month word m n s t =
     let place = some_number (m - 1) (n - 1) (sym here ∙ ap (λ w. position (λ name. bytes_eq name w) month_names) same ∙ there) in
     omega arith
 
-one_number : (least most : ℕ) (text : List ℕ) (m n : ℕ) → SpellsDigits least most text m → SpellsDigits least most text n → m ≡ n
-one_number least most text m n s t = sym s.value ∙ t.value
-
-same_parts : (a b : List ℕ) (c d e f g h i j k l m n o p : ℕ) → a ≡ b → c ≡ d → e ≡ f → g ≡ h → i ≡ j → k ≡ l → m ≡ n → o ≡ p
-    → (let x : PlainFields = record { name = a; level = c; moment = record { year = e; month = g; day = i; hour = k; minute = m; second = o } } in x)
-    ≡ record { name = b; level = d; moment = record { year = f; month = h; day = j; hour = l; minute = n; second = p } }
-same_parts a b c d e f g h i j k l m n o p q r s t u v w x = rw (q, r, s, t, u, v, w, x) refl
-
-same_fields : (a b : PlainFields) → a.name ≡ b.name → a.level ≡ b.level → a.moment.year ≡ b.moment.year → a.moment.month ≡ b.moment.month → a.moment.day ≡ b.moment.day
-    → a.moment.hour ≡ b.moment.hour → a.moment.minute ≡ b.moment.minute → a.moment.second ≡ b.moment.second → a ≡ b
-same_fields a b name level year month day hour minute second = same_parts _ _ _ _ _ _ _ _ _ _ _ _ _ _ _ _ name level year month day hour minute second
+abbrev plain : List ℕ → ℕ → ℕ → ℕ → ℕ → ℕ → ℕ → ℕ → PlainFields
+plain name level year month day hour minute second =
+    record { name = name; level = level; moment = record { year = year; month = month; day = day; hour = hour; minute = minute; second = second } }
 
 one_meaning : (w : PlainWords) (f g : PlainFields) → SpellsWords w f → SpellsWords w g → f ≡ g
 one_meaning w f g s t =
     let time = spelled_is_time w.time f.moment.hour f.moment.minute f.moment.second s.time in
     let time_too = spelled_is_time w.time g.moment.hour g.moment.minute g.moment.second t.time in
-    same_fields f g (s.same_name ∙ sym t.same_name) (sym s.level.value ∙ t.level.value) (sym s.year.value ∙ t.year.value)
-    (one_month w.month f.moment.month g.moment.month s.month t.month) (sym s.day.value ∙ t.day.value)
-    (sym time.hour.value ∙ time_too.hour.value) (sym time.minute.value ∙ time_too.minute.value) (sym time.seconds.value ∙ time_too.seconds.value)
+    let month = one_month w.month f.moment.month g.moment.month s.month t.month in
+    let same : plain f.name f.level f.moment.year f.moment.month f.moment.day f.moment.hour f.moment.minute f.moment.second
+    ≡ plain g.name g.level g.moment.year g.moment.month g.moment.day g.moment.hour g.moment.minute g.moment.second =
+    cc in
+    same
 
 -- a line has one shape at most
 pub one_shape : (line : List ℕ) (f g : PlainFields) → HasShape line f → HasShape line g → f ≡ g
@@ -109,20 +96,17 @@ pub one_text : (bytes : List ℕ) (es fs : List DatesEntry) → SpellsDates byte
 one_text bytes es fs s t = one_list (lines_of bytes) es fs s t
 
 -- neither blank nor an entry
-IsBad : List ℕ → Type 0
+abbrev IsBad : List ℕ → Type 0
 IsBad line = (AreSpaces line → ⊥) × ((e : DatesEntry) → SpellsLine line e → ⊥)
 
 bad_line : (line : List ℕ) → IsBadLine line → IsBad line
-unfolding IsBad
 bad_line line b = (b.0, λ e s. b.1 s.0 s.1)
 
 bad_date : (line : List ℕ) → IsBadDate line → IsBad line
-unfolding IsBad
 bad_date line b =
     (λ blank. blank_no_shape line b.0 blank b.1, λ e s. b.2 (subst (λ f. IsMoment f.moment) (one_shape line s.0 b.0 s.1 b.1) s.2))
 
 good_line : (line : List ℕ) (lines : List (List ℕ)) (es : List DatesEntry) → SpellLines (line ∷ lines) es → IsBad line → ⊥
-unfolding IsBad
 good_line line lines es (inl s) bad = bad.0 s.0
 good_line line lines es (inr s) bad = bad.1 s.0 s.2
 
@@ -136,20 +120,15 @@ no_bad_line (first ∷ before) line after es s bad =
     let later = later_good first (before ++ line ∷ after) es s in
     no_bad_line before line after later.0 later.1 bad
 
-heads : (a b : List ℕ) (more rest : List (List ℕ)) → a ∷ more ≡ b ∷ rest → (a ≡ b) × (more ≡ rest)
-heads a b more rest e = (cc, cc)
-
 -- the first bad line is one
 first_bad : (before other : List (List ℕ)) (line bad : List ℕ) (after behind : List (List ℕ)) (es fs : List DatesEntry)
     → before ++ line ∷ after ≡ other ++ bad ∷ behind → SpellLines before es → SpellLines other fs → IsBad line → IsBad bad → (length before ≡ length other) × (line ≡ bad)
-first_bad [] [] line bad after behind es fs e s t b c = (refl, (heads line bad after behind e).0)
-first_bad [] (first ∷ other) line bad after behind es fs e s t b c =
-    absurd (good_line first other fs t (subst IsBad (heads line first after (other ++ bad ∷ behind) e).0 b))
-first_bad (first ∷ before) [] line bad after behind es fs e s t b c =
-    absurd (good_line first before es s (subst IsBad (sym (heads first bad (before ++ line ∷ after) behind e).0) c))
+first_bad [] [] line bad after behind es fs e s t b c = (refl, cc)
+first_bad [] (first ∷ other) line bad after behind es fs e s t b c = let same : line ≡ first = cc in absurd (good_line first other fs t (subst IsBad same b))
+first_bad (first ∷ before) [] line bad after behind es fs e s t b c = let same : bad ≡ first = cc in absurd (good_line first before es s (subst IsBad same c))
 first_bad (first ∷ before) (next ∷ other) line bad after behind es fs e s t b c =
     let rest = first_bad before other line bad after behind (later_good first before es s).0 (later_good next other fs t).0
-    (heads first next (before ++ line ∷ after) (other ++ bad ∷ behind) e).1 (later_good first before es s).1 (later_good next other fs t).1 b c in
+    (cc) (later_good first before es s).1 (later_good next other fs t).1 b c in
     (ap suc rest.0, rest.1)
 
 -- a text that spells entries has no bad line

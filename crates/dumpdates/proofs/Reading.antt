@@ -1,16 +1,7 @@
 -- Lines that are read one after another.
 use Rattle.std.proofs.Common.{◌≡◌, ℕ, ◌+◌, ◌<◌, not, eqb, List, [], ◌∷◌, ◌++◌, length, take, drop, refl, sym, ap, ◌∙◌, subst, arith, append_assoc, length-append, inl, inr}
-use Rattle.std.specs.List.{position_or_len}
-use Rattle.std.proofs.lemmas.Bool.{cases_lt}
-use Rattle.std.proofs.lemmas.List.{take_all}
-use Rattle.std.proofs.lemmas.List.Splits.{slice_split_first, slice_split_none}
-use Rattle.std.proofs.lemmas.List.Sums.{fails_before_first, prefix_len-le-length}
-use Rattle.dumpdates.specs.Entry.{DatesEntry}
-use Rattle.dumpdates.specs.FoundLine.{IsAdded, IsLineRefused}
-use Rattle.dumpdates.specs.Lines.{lines_of, SpellLines, SpellsDates, HasDatesFault}
-use Rattle.dumpdates.specs.Text.{line_feed}
-use Rattle.dumpdates.specs.declared.fault.DatesFault.{DatesFault}
-use Rattle.dumpdates.specs.declared.fault.DatesFault.TheVariants.{BadLine, BadDate, OutOfMemory}
+use Rattle.dumpdates.proofs.Terms.{position_or_len, cases_lt, take_all, slice_split_first, slice_split_none, fails_before_first, prefix_len-le-length, DatesEntry, IsAdded, IsLineRefused, lines_of}
+use Rattle.dumpdates.proofs.Terms.{SpellLines, SpellsDates, HasDatesFault, line_feed, DatesFault, BadLine, BadDate, OutOfMemory}
 
 -- the lines before the rest are these entries, and the first of the rest has this number
 pub record HasRead (bytes rest : List ℕ) (number : ℕ) (entries : List DatesEntry) : Type 0 where
@@ -18,9 +9,6 @@ pub record HasRead (bytes rest : List ℕ) (number : ℕ) (entries : List DatesE
   pub split : lines_of bytes ≡ before ++ lines_of rest
   pub count : number ≡ length before + 1
   pub good : SpellLines before entries
-
-pub nothing_read : (bytes : List ℕ) → HasRead bytes bytes 1 []
-nothing_read bytes = record { before = []; split = refl; count = refl; good = refl }
 
 -- the first line of a text
 pub first_line : (text : List ℕ) (len : ℕ) → len ≡ position_or_len (λ b. eqb b line_feed) text → len < length text

@@ -1,23 +1,12 @@
 -- Lines that have the shape of an entry: their words, and what these say.
 use Rattle.std.proofs.Common.{◌≡◌, ℕ, suc, zero, ◌-◌, ◌<◌, Bool, true, false, not, ◌&&◌, cond, List, [], ◌∷◌, ◌++◌, length, get_or, Some, None, IsUtf8, refl, sym, ap, ◌∙◌, subst, arith}
-use Rattle.std.specs.Int.{IsInRange}
-use Rattle.std.specs.List.{AllByRecursion, list_all}
-use Rattle.std.specs.Str.Parse.{AllDigits}
-use Rattle.std.proofs.lemmas.Bool.{and_from, and_parts, both_ways}
-use Rattle.std.proofs.lemmas.Bool.Decides.{nat_tests}
-use Rattle.std.proofs.lemmas.List.Elements.{All-from_recursion}
+use Rattle.dumpdates.proofs.Terms.{IsInRange, AllByRecursion, list_all, AllDigits, and_from, and_parts, both_ways, nat_tests, All-from_recursion, digit_from_value, DatesEntry, IsName, IsEntry, words_of, is_space, AreSpaces, PlainWords}
+use Rattle.dumpdates.proofs.Terms.{word_list, PlainFields, SpellsDigits, IsWeekday, SpellsMonth, SpellsTime, SpellsWords, HasShape, SpellsLine, IsMoment, seconds_at, weekday_names, month_names, month_name, colon}
 use Rattle.std.proofs.lemmas.Str.{IsUtf8-from_ascii}
 use Rattle.std.proofs.lemmas.Str.Ascii.{IsAscii-from_all}
-use Rattle.std.proofs.lemmas.Str.Parse.{digit_from_value}
-use Rattle.dumpdates.specs.Entry.{DatesEntry, IsName, IsEntry}
-use Rattle.dumpdates.specs.Front.{words_of}
-use Rattle.dumpdates.specs.Line.{is_space, AreSpaces, PlainWords, word_list, PlainFields, SpellsDigits, IsWeekday, SpellsMonth, SpellsTime, SpellsWords, HasShape, SpellsLine}
-use Rattle.dumpdates.specs.Moment.{IsMoment, seconds_at}
-use Rattle.dumpdates.specs.Names.{weekday_names, month_names, month_name}
-use Rattle.dumpdates.specs.Text.{colon}
 use Rattle.dumpdates.proofs.Days.{moment_bound}
 use Rattle.dumpdates.proofs.Digits.{below_power}
-use Rattle.dumpdates.proofs.Cutting.{AllPass, IsWord, AreWords, IsCutInto, line_is_cut, cut_is_line}
+use Rattle.dumpdates.proofs.Cutting.{all_joined, all_weaker, AllPass, IsWord, AreWords, IsCutInto, line_is_cut, cut_is_line}
 
 pub all_from_test : (p : ℕ → Bool) (xs : List ℕ) → list_all p xs ≡ true → AllPass p xs
 all_from_test p [] h = tt
@@ -32,16 +21,11 @@ printed : (b : ℕ) → IsInRange 33 126 b → not (is_space b) ≡ true
 printed b h = let low = h.0 in let high = h.1 in grind (arith, nat_tests)
 
 all_printed : (name : List ℕ) → AllByRecursion (IsInRange 33 126) name → AllPass (λ b. not (is_space b)) name
-all_printed [] h = tt
-all_printed (b ∷ name) h = (printed b h.0, all_printed name h.1)
-
-ascii_bytes : (name : List ℕ) → AllByRecursion (IsInRange 33 126) name → AllByRecursion (λ b. b < 128) name
-ascii_bytes [] h = tt
-ascii_bytes (b ∷ name) h = (let high = h.0.1 in omega arith, ascii_bytes name h.1)
+all_printed = all_weaker (IsInRange 33 126) (λ b. not (is_space b) ≡ true) printed
 
 -- a name is text
 pub name_is_text : (name : List ℕ) → IsName name → IsUtf8 name
-name_is_text name h = IsUtf8-from_ascii name (IsAscii-from_all name (All-from_recursion (λ b. b < 128) name (ascii_bytes name h.1)))
+name_is_text name h = IsUtf8-from_ascii name (IsAscii-from_all name (All-from_recursion (λ b. b < 128) name (all_weaker (IsInRange 33 126) (λ b. b < 128) (λ b i. omega (arith, i.1)) name h.1)))
 
 -- digits
 all_digits : (text : List ℕ) → AllDigits 10 text → AllPass (λ b. not (is_space b)) text
@@ -80,42 +64,26 @@ month_word word m s =
     let high = s.0.1 in
     subst IsWord (sym s.1) (test_word (get_or month_names (m - 1) []) (names_at word_test month_names (m - 1) refl (omega arith)))
 
-pass_joined : (p : ℕ → Bool) (a b : List ℕ) → AllPass p a → AllPass p b → AllPass p (a ++ b)
-pass_joined p [] b s t = t
-pass_joined p (x ∷ a) b s t = (s.0, pass_joined p a b s.1 t)
-
 joined_long : (a b : List ℕ) → 0 < length b → 0 < length (a ++ b)
 joined_long [] b some = some
 joined_long (x ∷ a) b some = omega arith
 
 time_word : (word : List ℕ) (h m s : ℕ) → SpellsTime word h m s → IsWord word
 time_word word h m s t =
-    let later = pass_joined (λ b. not (is_space b)) t.minutes (colon ∷ t.seconds) (all_digits t.minutes t.minute.digits) (refl, all_digits t.seconds t.second.digits) in
-    let all = pass_joined (λ b. not (is_space b)) t.hours (colon ∷ (t.minutes ++ (colon ∷ t.seconds))) (all_digits t.hours t.hour.digits) (refl, later) in
+    let later = all_joined (λ b. not (is_space b) ≡ true) t.minutes (colon ∷ t.seconds) (all_digits t.minutes t.minute.digits) (refl, all_digits t.seconds t.second.digits) in
+    let all = all_joined (λ b. not (is_space b) ≡ true) t.hours (colon ∷ (t.minutes ++ (colon ∷ t.seconds))) (all_digits t.hours t.hour.digits) (refl, later) in
     subst IsWord (sym t.joined) (joined_long t.hours (colon ∷ (t.minutes ++ (colon ∷ t.seconds))) (omega arith), all)
 
 -- all seven are words
 pub are_words : (w : PlainWords) (f : PlainFields) → SpellsWords w f → AreWords (word_list w)
 are_words w f s =
-    let named = s.is_name.0.0 in (
-      (omega arith, all_printed w.name s.is_name.1),
-      (
-        digits_word 1 1 w.level f.level (omega arith) s.level,
-        (
-          weekday_word w.weekday s.weekday,
-          (
-            month_word w.month f.moment.month s.month,
-            (
-              digits_word 1 2 w.day f.moment.day (omega arith) s.day,
-              (
-                time_word w.time f.moment.hour f.moment.minute f.moment.second s.time,
-                (digits_word 4 4 w.year f.moment.year (omega arith) s.year, tt),
-              ),
-            ),
-          ),
-        ),
-      ),
-    )
+    let named = s.is_name.0.0 in
+    let name : IsWord w.name = (omega arith, all_printed w.name s.is_name.1) in
+    let level = digits_word 1 1 w.level f.level (omega arith) s.level in
+    let day = digits_word 1 2 w.day f.moment.day (omega arith) s.day in
+    let time = time_word w.time f.moment.hour f.moment.minute f.moment.second s.time in
+    let year = digits_word 4 4 w.year f.moment.year (omega arith) s.year in
+    (name, (level, (weekday_word w.weekday s.weekday, (month_word w.month f.moment.month s.month, (day, (time, (year, tt)))))))
 
 none_some : (w : PlainWords) → None ≡ Some w → ⊥
 none_some w e = cc

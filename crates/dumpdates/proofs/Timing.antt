@@ -1,7 +1,6 @@
 -- A time of day, as the eight bytes that it is written with.
 use Rattle.std.proofs.Common.{◌≡◌, ℕ, List, [], ◌∷◌, ◌++◌, length, get_or, take, drop, refl, sym, arith, subst}
-use Rattle.dumpdates.specs.Line.{SpellsDigits, SpellsTime}
-use Rattle.dumpdates.specs.Text.{colon}
+use Rattle.dumpdates.proofs.Terms.{SpellsDigits, SpellsTime, colon}
 
 -- two colons among eight bytes, and two digits in each part
 pub record IsTime (word : List ℕ) (h m s : ℕ) : Type 0 where

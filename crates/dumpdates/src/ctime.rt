@@ -32,6 +32,7 @@ pub fn date_text(date: u64) -> Option<ArrayString<DATE_TEXT_BYTES>>
 }
 
 /// Returns the text of a date up to `LAST_SECOND`.
+#[tactic(auto, using(crate::proofs::Writing::year_digits, std::proofs::Common::append_assoc), unfolding(crate::specs::Text::ctime_text))]
 pub(crate) fn ctime(date: u64) -> ArrayString<DATE_TEXT_BYTES>
     requires { date ≤ LAST_SECOND }
     ensures { result.bytes ≡ spec.ctime_text date }
@@ -44,6 +45,7 @@ pub(crate) fn ctime(date: u64) -> ArrayString<DATE_TEXT_BYTES>
 }
 
 /// Returns the weekday of a date, the month and the day, each with a space after it.
+#[tactic(auto, using(std::proofs::Common::append_assoc))]
 fn day_words(date: u64, moment: Moment) -> ArrayString<DATE_TEXT_BYTES>
     requires { IsMoment (plain_moment moment) }
     ensures text { result.bytes ≡ spec.day_words date (plain_moment moment) }
@@ -60,6 +62,7 @@ fn day_words(date: u64, moment: Moment) -> ArrayString<DATE_TEXT_BYTES>
 }
 
 /// Appends the time of day as hh:mm:ss, and a space.
+#[tactic(auto, using(std::proofs::Common::append_assoc))]
 fn push_time(text: &mut ArrayString<DATE_TEXT_BYTES>, moment: Moment)
     requires moment { IsMoment (plain_moment moment) }
     requires room { length text.old.bytes + 9 ≤ DATE_TEXT_BYTES }
@@ -75,7 +78,7 @@ fn push_time(text: &mut ArrayString<DATE_TEXT_BYTES>, moment: Moment)
 }
 
 /// Appends a day of a month in two bytes, with a space in place of a leading 0.
-#[tactic(auto, using(crate::proofs::Writing::one_digit))]
+#[tactic(auto, using(std::proofs::lemmas::Fmt::decimal_digit))]
 fn push_day(text: &mut ArrayString<DATE_TEXT_BYTES>, day: u8)
     requires below { day < 100 }
     requires room { length text.old.bytes + 2 ≤ DATE_TEXT_BYTES }
@@ -91,7 +94,7 @@ fn push_day(text: &mut ArrayString<DATE_TEXT_BYTES>, day: u8)
 }
 
 /// Appends a number below 100 as two digits.
-#[tactic(auto, using(crate::proofs::Writing::one_digit))]
+#[tactic(auto, using(std::proofs::lemmas::Fmt::decimal_digit))]
 fn push_two(text: &mut ArrayString<DATE_TEXT_BYTES>, number: u8)
     requires below { number < 100 }
     requires room { length text.old.bytes + 2 ≤ DATE_TEXT_BYTES }

@@ -93,6 +93,7 @@ impl Dates {
     /// A name of less than 32 bytes is padded with spaces to 32.
     ///
     /// Fails with `OutOfMemory` if an allocation fails. Without entries it allocates nothing.
+    #[tactic(auto, using(crate::proofs::Entering::stored_entries, crate::proofs::Lined::written_spells))]
     pub fn text(&self) -> Result<Vec<u8>, DatesFault>
         // Returns the text of a dumpdates file with the entries of the list. Reading this text
         // returns the same list, or `OutOfMemory`.
@@ -109,6 +110,7 @@ impl Dates {
 
     /// Returns the number of entries. Each name has 1 to 255 bytes of printable ASCII without a
     /// space. Each level is from 0 to 9, and each date from 0 to `LAST_SECOND`.
+    #[tactic(auto, using(crate::proofs::Entering::stored_entries))]
     pub fn len(&self) -> usize
         // Returns the number of entries.
         ensures value { result ≡ length self.now }
@@ -120,6 +122,7 @@ impl Dates {
 
     /// Returns the entry at an index, counted from 0. Returns None if the index is past the last
     /// entry.
+    #[tactic(auto, using(std::proofs::lemmas::Grind::elements))]
     pub fn get(&self, at: usize) -> Option<Entry<'_>>
         // Returns the entry at an index, counted from 0. If the index is past the last entry, the
         // call returns `None`.
@@ -131,6 +134,7 @@ impl Dates {
     /// Returns the base date of a dump (dump(8)), in seconds since the beginning of 1970 (UTC). It
     /// is the date of the latest dump of the name at any level below the given one. It is 0 if no
     /// lower level was dumped, and at most `LAST_SECOND`.
+    #[tactic(auto, using(crate::proofs::Entering::base_bound, crate::proofs::Entering::stored_entries))]
     pub fn base(&self, name: &str, level: u8) -> u64
         // Returns the latest date in the list for the given name and any level below the given
         // level. If the list has no entry with this name and a lower level, the call returns 0.

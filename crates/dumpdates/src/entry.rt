@@ -49,7 +49,7 @@ impl<'a> Entry<'a> {
 
 /// Returns whether the bytes can be the name of a file system. A name has 1 to 255 bytes of
 /// printable ASCII without a space. Such bytes are UTF-8.
-#[tactic(auto, using(crate::proofs::Shapes::name_is_text))]
+#[tactic(auto, using(crate::proofs::Shapes::name_is_text, std::proofs::lemmas::Grind::elements))]
 pub fn is_name(name: &[u8]) -> bool
     // Returns whether the bytes can be the name of a file system: 1 to 255 bytes of printable ASCII
     // without a space. The bytes of a name are valid UTF-8.

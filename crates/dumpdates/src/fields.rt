@@ -20,6 +20,7 @@ pub(crate) struct LineFields<'a> {
 }
 
 /// Returns the values of the words, or None if one of them has the wrong shape.
+#[tactic(auto, using(crate::proofs::Naming::weekday_is, crate::proofs::Naming::is_weekday))]
 pub(crate) fn fields_of(words: LineWords<'_>) -> Option<LineFields<'_>>
     ensures { MatchOption result ((f : PlainFields) → ¬ SpellsWords (plain_words words.entry) f)
         (λ f. SpellsWords (plain_words words.entry) (plain_fields f)) }

@@ -39,6 +39,7 @@ pub fn one_reading()
 /// read is the date that was written.
 ///
 /// The function does nothing: its contract is a law of the definitions.
+#[tactic(auto, using(crate::proofs::Lined::written_spells, crate::proofs::Again::moment_is, crate::proofs::Again::moment_again))]
 pub fn written_and_read()
     // The text that `Dates::text` returns for a list of entries spells this list. So `Dates::read`
     // of this text returns the list, or `OutOfMemory`.
@@ -53,6 +54,7 @@ pub fn written_and_read()
 /// Entries within their limits stay so.
 ///
 /// The function does nothing: its contract is a law of the definitions.
+#[tactic(auto, using(crate::proofs::Entered::one_entered, crate::proofs::Entered::others_stay, crate::proofs::Entered::entered_again, crate::proofs::Entered::entered_within))]
 pub fn one_entry()
     // After a dump is entered, the list has exactly one entry with the dump's name and level. All
     // other entries stay as they were.

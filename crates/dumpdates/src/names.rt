@@ -25,6 +25,7 @@ pub(crate) fn weekday_name(day: u64) -> &'static str
 }
 
 /// Returns the name of a month. The first month is 1.
+#[tactic(auto, using(crate::proofs::Naming::now_at), unfolding(crate::specs::Names::month_name))]
 pub(crate) fn month_name(month: u8) -> &'static str
     requires { IsInRange 1 12 month }
     ensures name { result.now ≡ spec.month_name month }
@@ -41,6 +42,7 @@ pub(crate) fn is_weekday(word: &[u8]) -> bool
 }
 
 /// Returns the month with this name, or None if there is none. The first month is 1.
+#[tactic(auto, using(crate::proofs::Naming::no_month, crate::proofs::Naming::is_month))]
 pub(crate) fn month_named(word: &[u8]) -> Option<u8>
     ensures { MatchOption result ((m : ℕ) → ¬ SpellsMonth word.now m) (λ m. SpellsMonth word.now m) }
 {

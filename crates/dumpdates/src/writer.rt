@@ -25,6 +25,7 @@ pub(crate) fn push_lines(out: &mut Vec<u8>, entries: &[Stored]) -> Result<(), Al
 }
 
 /// Appends the line of an entry.
+#[tactic(auto, using(std::proofs::Common::append_assoc), unfolding(crate::specs::Text::line_text))]
 fn push_line(out: &mut Vec<u8>, entry: &Stored) -> Result<(), AllocError>
     ensures { OnOk result (out.new.items ≡ out.old.items ++ spec.line_text (plain_stored entry.now)) }
 {

@@ -1,20 +1,8 @@
 -- One request under a trouble that is set before it and taken back after it.
 use Rattle.std.proofs.Common.{◌≡◌, Bool, false, Option, Some, None, refl, sym, subst, ◌∙◌}
-use Rattle.rmt_wire.specs.Request.{PlainRequest}
-use Rattle.rmt_wire.specs.Reply.{PlainReply}
-use Rattle.tape.specs.Trouble.{TroubledTape}
-use Rattle.tape.specs.declared.trouble.Trouble.{Trouble}
-use Rattle.tape.specs.declared.trouble.Trouble.TheVariants.{None as NoTrouble}
-use Rattle.drives.specs.ListLibrary.{troubled_in}
-use Rattle.drives.specs.TapeLibrary.{EachReelOnce}
-use Rattle.rmt_server.specs.declared.session.session_state.Opened.{Opened}
-use Rattle.rmt_server.specs.Session.{SessionView}
-use Rattle.rmt_server.specs.State.{drive_of, IsAt, HasView, KeepsDrives}
-use Rattle.rmt_server.specs.Carrying.{IsCarriedOut}
-use Rattle.rmt_server.specs.Troubling.{with_trouble}
-use Rattle.rmt_server.specs.Memory.{MemoryState, in_memory, session_view_seen}
-use Rattle.rmt_server.specs.TroubledServe.{TroubledServe, IsTroubled, IsSetFor, set_for, with_troubles, IsServedUnder}
-use Rattle.tape_host.specs.Hosting.{IsUntroubledAt, IsCarried}
+use Rattle.tape_host.proofs.Names.{PlainRequest, PlainReply, TroubledTape, Trouble, NoTrouble, troubled_in, EachReelOnce, Opened, SessionView, drive_of, IsAt}
+use Rattle.tape_host.proofs.Names.{HasView, KeepsDrives, IsCarriedOut, with_trouble, MemoryState, in_memory, session_view_seen, TroubledServe, IsTroubled}
+use Rattle.tape_host.proofs.Names.{IsSetFor, set_for, with_troubles, IsServedUnder, IsUntroubledAt, IsCarried}
 use Rattle.tape_host.proofs.Ended.{TellsSessionView}
 
 -- what the laws of sessions say

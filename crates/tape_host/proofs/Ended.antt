@@ -1,28 +1,14 @@
 -- What the end of one side leaves of a host.
-use Rattle.std.proofs.Common.{◌≡◌, ◌≢◌, ◌⊎◌, ℕ, ◌+◌, ◌<◌, ◌≤◌, Bool, false, List, length, map, slice_index, option_map, Option, Some, None, MatchOption, refl, sym, ap, subst, ◌∙◌, inl, inr, arith}
-use Rattle.std.proofs.lemmas.Grind.{common_steps}
-use Rattle.tape.specs.Trouble.{TroubledTape}
-use Rattle.tape.specs.declared.trouble.Trouble.TheVariants.{None as NoTrouble}
-use Rattle.tape.specs.contracts.troubled.TroubledReelReel.TheImpl.{ghosts as of_reel}
-use Rattle.drives.specs.Local.{IsHeldBy}
-use Rattle.drives.specs.ListLibrary.{library_of, IsLibrary}
-use Rattle.drives.specs.TapeLibrary.{TapeLibrary, EachReelOnce}
-use Rattle.drives.specs.Stacking.{ReelCanFail}
-use Rattle.rmt_server.specs.Session.{SessionView}
-use Rattle.rmt_server.specs.State.{state, drive_of, reel_of, IsAt, HasView, SessionCanFail, KeepsDrives}
-use Rattle.rmt_server.specs.Opening.{holder_after_close, IsClosed}
-use Rattle.rmt_server.specs.Memory.{MemoryState, in_memory, session_seen, session_view_seen}
-use Rattle.rmt_server.specs.TroubledServe.{IsTroubled, IsEnded}
-use Rattle.rmt_server.specs.ServerState.{server, ServerConnection}
-use Rattle.tape_host.specs.declared.side.ServerConnection.{ServerConnection as RealServerConnection}
-use Rattle.tape_host.specs.declared.side.Next.{Next}
-use Rattle.tape_host.specs.declared.side.Next.TheVariants.{Nothing, Seat, Whole}
-use Rattle.tape_host.specs.Servers.{side_at, with_side_at, ended_from, ended}
-use Rattle.tape_host.specs.Hosting.{MemoryDrives, MemorySessionState, idle_session_state, seen_side, server_of, IsLive, IsIdleSession, IsNextWaiting, IsHosting}
-use Rattle.tape_host.proofs.Sides.{side_within, side_other, side_same, side_map, length_with, map_with}
-use Rattle.tape_host.specs.Lying.{AreInSlotsExcept, IsOnlineAt}
+use Rattle.std.proofs.Common.{◌≡◌, ◌≢◌, ℕ, ◌+◌, ◌<◌, ◌≤◌, Bool, false, List, length, map, slice_index, option_map, Option, Some, None, MatchOption, refl, sym, ap, subst, ◌∙◌, inl, inr, arith}
+use Rattle.tape_host.proofs.Names.{cases_eq, false_from_ne_true, common_steps, TroubledTape, NoTrouble, of_reel, IsHeldBy, library_of, IsLibrary, TapeLibrary}
+use Rattle.tape_host.proofs.Names.{EachReelOnce, ReelCanFail, SessionView, state, drive_of, reel_of, IsAt, HasView, SessionCanFail, KeepsDrives}
+use Rattle.tape_host.proofs.Names.{holder_after_close, IsClosed, MemoryState, in_memory, session_seen, session_view_seen, IsTroubled, IsEnded, server}
+use Rattle.tape_host.proofs.Names.{ServerConnection, RealServerConnection, Next, Nothing, Seat, Whole, side_at, with_side_at, ended_from, ended, MemoryDrives}
+use Rattle.tape_host.proofs.Names.{MemorySessionState, idle_session_state, seen_side, server_of, IsLive, IsIdleSession, IsNextWaiting, IsHosting}
+use Rattle.tape_host.proofs.Names.{AreInSlotsExcept, IsOnlineAt}
+use Rattle.tape_host.proofs.Sides.{side_within, side_other, side_map, length_with, map_with, side_replaced}
 use Rattle.tape_host.proofs.Tidied.{Either, OnlineBeside, closed_fits, side_tidy}
-use Rattle.tape_host.proofs.Hosted.{false_unless, holds_open}
+use Rattle.tape_host.proofs.Hosted.{holds_open}
 
 -- what the laws of sessions say
 abbrev pub OthersStay : Type 0
@@ -37,9 +23,6 @@ abbrev pub EndsUntroubled : Type 0
 EndsUntroubled = (stacks : Bool) (old new : MemoryState) (before : SessionView) → IsAt in_memory old → HasView in_memory old before
     → IsTroubled NoTrouble stacks old → IsClosed in_memory old new → IsEnded old before new
 
-eq_or_ne : (m n : ℕ) → (m ≡ n) ⊎ (m ≢ n)
-eq_or_ne m n = grind arith
-
 some_is : (a b : ℕ) → Some a ≡ Some b → a ≡ b
 some_is a b o = cc
 
@@ -53,7 +36,7 @@ ended_none drives sides k e = ap (ended_from (server_of drives sides) k) (sym (s
 -- who held a drive that is held after a close
 still_held : (drive : Option ℕ) (d m n : ℕ) → holder_after_close drive d m ≡ n → 0 < n → (m ≡ n) × (drive ≢ Some d)
 still_held None d m n e x = (e, λ o. absurd cc)
-still_held (Some drive) d m n e x = elim (eq_or_ne d drive) [
+still_held (Some drive) d m n e x = elim (cases_eq d drive) [
   | inl same ↦ absurd (grind (arith, common_steps))
   | inr other ↦ (grind (arith, common_steps), λ o. other (sym (some_is drive d o)))
 ]
@@ -69,12 +52,7 @@ module _ (others : OthersStay) {drives drives' : MemoryDrives} {k : ℕ} {one af
   session_state_stays n session_state apart e a = others drives drives' one after session_state at a (λ same. apart (sym e ∙ same ∙ number)) at' kept
 
   pub live_stays : (n : ℕ) (s : RealServerConnection) → n ≢ k → IsLive drives n s → IsLive drives' n s
-  live_stays n s apart l = record {
-    at = session_state_stays n s.session apart l.number l.at;
-    number = l.number;
-    readable = l.readable;
-    untroubled = l.untroubled;
-  }
+  live_stays n s apart l = record { at = session_state_stays n s.session apart l.number l.at; number = l.number; readable = l.readable; untroubled = l.untroubled }
 
   idle_stays : (n : ℕ) (session_state : MemorySessionState) → n ≢ k → IsIdleSession drives n session_state → IsIdleSession drives' n session_state
   idle_stays n session_state apart i = record { at = session_state_stays n session_state apart i.number i.at; number = i.number; idle = i.idle }
@@ -100,12 +78,9 @@ module _ (others : OthersStay) (session_view : TellsSessionView) (ends : EndsUnt
       record { online = live.untroubled; next = h.quiet; lying = h.lying } c
 
   ended_live : (n : ℕ) (x : RealServerConnection) → side_at (with_side_at sides k None) n ≡ Some x → IsLive drives' n x
-  ended_live n x e = elim (eq_or_ne n k) [
-    | inl same ↦ (
-        let within = side_within sides k s is in
-        let none = side_same sides k None within.0 within.1 in
-        let found = subst (λ m. side_at (with_side_at sides k None) m ≡ Some x) same e in absurd cc)
-    | inr apart ↦ live_stays others live.number live.at c.at c.kept n x apart (h.live n x (sym (side_other sides k n None apart) ∙ e))
+  ended_live n x e = elim (side_replaced sides k n s None (Some x) is e) [
+    | inl own ↦ (let none = own.1 in absurd cc)
+    | inr other ↦ live_stays others live.number live.at c.at c.kept n x other.0 (h.live n x other.1)
   ]
 
   ended_held : (d n : ℕ) → IsHeldBy drives'.holds d n → 0 < n → (x : RealServerConnection) × (side_at (with_side_at sides k None) n ≡ Some x)
@@ -131,7 +106,7 @@ module _ (others : OthersStay) (session_view : TellsSessionView) (ends : EndsUnt
         (waiting_stays others live.number live.at c.at c.kept (length sides) next (side_within sides k s is).1 c.same_seats h.waiting);
     told = (refl, subst EachReelOnce left.tells.library.0 left.tells.library.1);
     paired = c.kept.same_holds ∙ h.paired ∙ sym c.kept.same_stacks;
-    quiet = false_unless drives'.stacks.trouble (λ t. untroubled_before (c.quiet (inl (inl t))));
+    quiet = false_from_ne_true drives'.stacks.trouble (λ t. untroubled_before (c.quiet (inl (inl t))));
     lying = left.lying;
     tidy = ended_tidy;
   }

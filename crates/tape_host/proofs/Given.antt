@@ -1,14 +1,7 @@
 -- What a reader gave of what was unread.
 use Rattle.std.proofs.Common.{◌≡◌, ℕ, List, [], ◌∷◌, ◌++◌, Option, Some, None, Result, Ok, Err, refl, sym, ap, subst, ◌∙◌, append_assoc}
-use Rattle.rmt_wire.specs.Request.{PlainRequest, SpellsRequest}
-use Rattle.rmt_wire.specs.Request.PlainRequest.{Open, Close, Write, WriteDropped, Read, Op}
-use Rattle.rmt_wire.specs.RequestParts.{IsRequestPrefix, HasNoSpelling, HasFault, ParsesAs}
-use Rattle.rmt_wire.specs.RequestReader.{RequestHeld, Unread, IsNext, plain_next_result}
-use Rattle.rmt_wire.specs.Lent.{plain_request}
-use Rattle.rmt_wire.specs.declared.request.Request.{Request}
-use Rattle.rmt_wire.specs.declared.fault.WireFault.{WireFault}
-use Rattle.rmt_server.specs.Replies.{IsSayable}
-use Rattle.tape_host.specs.Turns.{GivesNothing, GivesFault, GivesRequest}
+use Rattle.tape_host.proofs.Names.{PlainRequest, SpellsRequest, IsRequestPrefix, HasNoSpelling, HasFault, ParsesAs, RequestHeld, IsNext, plain_next_result}
+use Rattle.tape_host.proofs.Names.{Request, WireFault, GivesNothing}
 
 -- bytes that are open have no fault
 open_faultless : (bytes : List ℕ) (fault : WireFault) → IsRequestPrefix bytes → HasFault bytes fault → ⊥
@@ -32,25 +25,3 @@ module _ (old new : RequestHeld) (result : Result (Option Request) WireFault) (n
         λ bytes rest found u g. (let w = m.continues bytes u in gives_none bytes rest found w.2.0 w.2.1 g),
         m.unchanged,
       )
-
-  pub next_fault : (fault : WireFault) → result ≡ Err fault → (bytes : List ℕ) → Unread old bytes → GivesFault old fault × (new ≡ old)
-  next_fault fault e bytes u =
-      let m = subst (λ a. IsNext old (plain_next_result a) new) e n in
-      let w = m.continues bytes u in ((bytes, w.0, u, w.2), m.unchanged)
-
-  pub next_request : (request : Request) → result ≡ Ok (Some request) → (bytes : List ℕ) → Unread old bytes → GivesRequest old (plain_request request) new
-  next_request request e bytes u =
-      let m = subst (λ a. IsNext old (plain_next_result a) new) e n in
-      let w = m.continues bytes u in (bytes, w.0, u, w.2, w.1)
-
--- the count of an operation that is spelled can be said in a reply
-sayable : (text : List ℕ) (request : PlainRequest) → SpellsRequest text request → IsSayable request
-sayable text (Open device mode) s = tt
-sayable text Close s = tt
-sayable text (Write bytes) s = tt
-sayable text (WriteDropped count) s = tt
-sayable text (Read count) s = tt
-sayable text (Op op count) s = s.3.small
-
-pub given_sayable : (old after : RequestHeld) (request : PlainRequest) → GivesRequest old request after → IsSayable request
-given_sayable old after request g = sayable g.3.0 request g.3.1

@@ -1,41 +1,20 @@
 -- How a host's drives stay those of its sides.
-use Rattle.std.proofs.Common.{◌≡◌, ◌⊎◌, ℕ, zero, suc, ◌+◌, ◌<◌, ◌≤◌, ◌==◌, Bool, true, false, List, [], ◌∷◌, ◌++◌, length, map, replicate, slice_index, slice_index_or, option_map, Option, Some, None, refl, sym, ap, subst, ◌∙◌, inl, inr, arith}
-use Rattle.std.proofs.lemmas.List.{length-replicate, get_or-replicate, length-append, map-append, nil_from_length}
-use Rattle.std.proofs.lemmas.Option.{same_Some}
-use Rattle.std.proofs.lemmas.Bool.Decides.{nat_tests}
-use Rattle.std.proofs.lemmas.Grind.{common_steps}
-use Rattle.rmt_wire.specs.RequestReader.{RequestHeld, held, dropped_line, UnreadAt, Unread}
-use Rattle.tape.specs.Trouble.{TroubledTape}
-use Rattle.drives.specs.declared.view.View.{View}
-use Rattle.drives.specs.TapeLibrary.{latched_at}
-use Rattle.drives.specs.Holding.{newcomer, HoldsJust}
-use Rattle.drives.specs.Local.{Holders, holders, IsSeatOf, IsHeldBy}
-use Rattle.drives.specs.ListLibrary.{library_of, IsLibrary, troubled_in, StacksCanFail}
-use Rattle.rmt_server.specs.declared.access.Access.{Access}
-use Rattle.rmt_server.specs.declared.session.session_state.Opened.{Opened}
-use Rattle.rmt_server.specs.Session.PlainSession.{Idle}
-use Rattle.rmt_server.specs.State.{state, drive_of, IsAt}
-use Rattle.rmt_server.specs.Memory.{in_memory, session_seen, session_with}
-use Rattle.rmt_server.specs.TroubledServe.{drive_in}
-use Rattle.rmt_server.specs.ServerState.{server, side}
-use Rattle.tape_host.specs.declared.side.ServerConnection.{ServerConnection as RealServerConnection}
-use Rattle.tape_host.specs.declared.side.Next.{Next}
-use Rattle.tape_host.specs.declared.side.Next.TheVariants.{Nothing, Seat, Whole}
-use Rattle.tape_host.specs.Servers.{side_at, drive_open_by, IsHeldOnce, joined}
+use Rattle.std.proofs.Common.{◌≡◌, ◌⊎◌, ℕ, zero, suc, ◌+◌, ◌<◌, ◌≤◌, true, List, [], ◌∷◌, ◌++◌, length, map, replicate, slice_index, slice_index_or, option_map, Option, Some, None, refl, sym, ap, subst, ◌∙◌, inl, inr, arith}
+use Rattle.rmt_wire.specs.RequestReader.{dropped_line}
+use Rattle.tape_host.proofs.Names.{eqb-true, eq-eqb, false_from_ne_true, length-replicate, get_or-replicate, length-append, map-append, nil_from_length}
+use Rattle.tape_host.proofs.Names.{same_Some, common_steps, RequestHeld, held, UnreadAt, Unread, TroubledTape, View, latched_at, newcomer, HoldsJust, Holders}
+use Rattle.tape_host.proofs.Names.{holders, IsSeatOf, IsHeldBy, library_of, IsLibrary, troubled_in, StacksCanFail, Access, Opened, Idle, state, drive_of, IsAt}
+use Rattle.tape_host.proofs.Names.{in_memory, session_seen, session_with, drive_in, server, side, RealServerConnection, Next, Nothing, Seat, Whole, side_at}
+use Rattle.tape_host.proofs.Names.{drive_open_by, IsHeldOnce, joined, AreAllInSlots, IsOnlineAt, MemoryDrives, MemorySessionState, seen_side, server_of}
+use Rattle.tape_host.proofs.Names.{is_nothing, IsMade, IsUntroubled, IsLive, IsIdleSession, IsHosting}
 use Rattle.tape_host.proofs.Lying.{lie_first, none_away}
 use Rattle.tape_host.proofs.Sides.{side_within, side_map, at_more}
 use Rattle.tape_host.proofs.Tidied.{joined_tidy, none_online}
-use Rattle.tape_host.specs.Lying.{AreAllInSlots, IsOnlineAt}
-use Rattle.tape_host.specs.Hosting.{MemoryDrives, MemorySessionState, seen_side, server_of, is_nothing, IsIdle, IsMade, IsUntroubled, IsLive, IsIdleSession, IsNextWaiting, IsHosting}
 
 -- without connections no side is live
 none_live : {S : Type 0} (k : ℕ) (s : S) → side_at [] k ≡ Some s → ⊥
 none_live zero s e = absurd cc
 none_live (suc i) s e = absurd cc
-
-pub false_unless : (b : Bool) → (b ≡ true → ⊥) → b ≡ false
-false_unless true h = absurd (h refl)
-false_unless false h = refl
 
 pub none_unless : (n : ℕ) → (0 < n → ⊥) → n ≡ 0
 none_unless zero h = refl
@@ -55,7 +34,7 @@ first_hosting drives n e all told quiet rested =
       waiting = ap (λ h. h.last) e;
       told = told;
       paired = same ∙ sym all;
-      quiet = false_unless drives.stacks.trouble (λ t. quiet (inl t));
+      quiet = false_from_ne_true drives.stacks.trouble (λ t. quiet (inl t));
       lying = none_unless (troubled_in drives.stacks.library) (λ x. quiet (inr x));
       tidy = lie_first (library_of drives.stacks) (IsOnlineAt []) rested;
     }
@@ -69,21 +48,15 @@ seen_drive : (opened : Option (Opened TroubledTape)) → drive_in (session_seen 
 seen_drive None = refl
 seen_drive (Some device) = seen_with device.drive device.access device.reel
 
-number_is : (n a : ℕ) → (n == a) ≡ true → n ≡ a
-number_is n a e = grind (arith, nat_tests)
-
-is_number : (n a : ℕ) → n ≡ a → (n == a) ≡ true
-is_number n a e = grind (arith, nat_tests)
-
 module _ {drives : MemoryDrives} {sides : List (Option RealServerConnection)} {next : Next} (h : IsHosting drives sides next) where
   -- the holder of a drive is the number of the side that has it open
   pub holds_open : (d k : ℕ) (s : RealServerConnection) → IsLive drives k s → IsHeldBy drives.holds d k → drive_of s.session.opened ≡ Some d
-  holds_open d k s live (l, e) = (live.at.held d).0 (live.at.own.agrees d l ∙ is_number (slice_index drives.holds.numbers d) s.session.seat.number (e ∙ sym live.number))
+  holds_open d k s live (l, e) = (live.at.held d).0 (live.at.own.agrees d l ∙ eq-eqb (slice_index drives.holds.numbers d) s.session.seat.number (e ∙ sym live.number))
 
   open_holds : (d k : ℕ) (s : RealServerConnection) → IsLive drives k s → drive_of s.session.opened ≡ Some d → IsHeldBy drives.holds d k
   open_holds d k s live o =
       let l : d < length drives.holds.numbers = omega (arith, live.at.below d o, h.paired) in
-      (l, number_is (slice_index drives.holds.numbers d) s.session.seat.number (sym (live.at.own.agrees d l) ∙ (live.at.held d).1 o) ∙ live.number)
+      (l, eqb-true (slice_index drives.holds.numbers d) s.session.seat.number (sym (live.at.own.agrees d l) ∙ (live.at.held d).1 o) ∙ live.number)
 
   open_back : (d k : ℕ) (side : Option RealServerConnection) → side_at sides k ≡ side → drive_open_by (option_map seen_side side) ≡ Some d → IsHeldBy drives.holds d k
   open_back d k None e o = absurd cc
@@ -166,12 +139,6 @@ made_hosting drives sides (Seat seat) next h (inr (s, e, fresh)) = subst (IsHost
   tidy = h.tidy;
 }
 made_hosting drives sides (Whole s) next h m = subst (IsHosting drives sides) (sym m) h
-
--- a seat that waits holds no drive
-pub waiting_idle : (drives : MemoryDrives) (n : ℕ) (next : Next) → IsNextWaiting drives n next → IsIdle next
-waiting_idle drives n Nothing w = tt
-waiting_idle drives n (Seat seat) w = w.1.at.held
-waiting_idle drives n (Whole s) w = tt
 
 -- the sides are those before, and the one that was added
 at_push : {S : Type 0} (sides : List (Option S)) (s : S) (i : ℕ) (x : S) → slice_index_or (sides ++ Some s ∷ []) i None ≡ Some x

@@ -8,3 +8,4 @@ pub mod Hosted
 pub mod Pushed
 pub mod Restacked
 pub mod Turned
+mod Names

@@ -2,9 +2,8 @@
 use Rattle.std.proofs.Common.{◌≡◌, ◌≢◌, ◌⊎◌, ℕ, zero, suc, Bool, true, false, List, [], ◌∷◌, ◌++◌, take, drop, slice_set, slice_index_or, IsSome, Option, Some, None, refl, sym, ap, subst, inl, inr}
 use Rattle.std.specs.List.{cons_option}
 use Rattle.std.specs.Str.{bytes_eq}
-use Rattle.drives.specs.TapeLibrary.{ReelSlot, Drive, drive_with, LibraryOf, library, drive_at, latched_on, latched_at, away_name, with_first, at_first, to_bin}
-use Rattle.drives.specs.Arranging.{slot_named, without, picked, left, pile_of, arranged}
-use Rattle.tape_host.specs.Lying.{AreInSlots, AreStacksInSlots, AreAllInSlots, AreInSlotsExcept}
+use Rattle.tape_host.proofs.Names.{ReelSlot, Drive, drive_with, LibraryOf, library, drive_at, latched_on, latched_at, away_name, with_first, at_first, to_bin}
+use Rattle.tape_host.proofs.Names.{slot_named, without, picked, left, pile_of, arranged, AreInSlots, AreStacksInSlots, AreAllInSlots, AreInSlotsExcept}
 
 -- a reel that lies there is not away
 not_away : {X : Type 0} (name : List ℕ) (reel : Option X) → IsSome reel → IsSome (away_name name reel) → ⊥
@@ -59,10 +58,8 @@ at_set (x ∷ xs) zero (suc e) r = inr (inl (λ same. absurd cc, refl))
 at_set (x ∷ xs) (suc d) zero r = inr (inl (λ same. absurd cc, refl))
 at_set (x ∷ xs) (suc d) (suc e) r = elim (at_set xs d e r) [
   | inl here ↦ inl (ap suc here.0, here.1)
-  | inr other ↦ elim other [
-    | inl there ↦ inr (inl (λ same. there.0 (cc), there.1))
-    | inr none ↦ inr (inr none)
-  ]
+  | inr (inl there) ↦ inr (inl (λ same. there.0 (cc), there.1))
+  | inr (inr none) ↦ inr (inr none)
 ]
 
 -- one stack is another, and the bin too
@@ -70,20 +67,16 @@ module _ {X : Type 0} (s : LibraryOf X) (d : ℕ) (r : Drive X) (bin : List (Ree
   put_below : AreInSlots (drop 1 r.stack) → (e : ℕ) → AreInSlots (drop 1 (drive_at (library (slice_set s.drives d r) bin) e).stack)
   put_below below e = elim (at_set s.drives d e r) [
     | inl here ↦ subst (λ (x : Drive X). AreInSlots (drop 1 x.stack)) (sym here.1) below
-    | inr other ↦ elim other [
-      | inl there ↦ subst (λ (x : Drive X). AreInSlots (drop 1 x.stack)) (sym there.1) (h.below e)
-      | inr none ↦ subst (λ (x : Drive X). AreInSlots (drop 1 x.stack)) (sym none) tt
-    ]
+    | inr (inl there) ↦ subst (λ (x : Drive X). AreInSlots (drop 1 x.stack)) (sym there.1) (h.below e)
+    | inr (inr none) ↦ subst (λ (x : Drive X). AreInSlots (drop 1 x.stack)) (sym none) tt
   ]
 
   put_first : (IsSome (latched_on r.stack) → after d) → ((e : ℕ) → e ≢ d → before e → after e) → (e : ℕ)
       → IsSome (latched_at (library (slice_set s.drives d r) bin) e) → after e
   put_first here others e away = elim (at_set s.drives d e r) [
     | inl same ↦ subst after (sym same.0) (here (subst (λ (x : Drive X). IsSome (latched_on x.stack)) same.1 away))
-    | inr other ↦ elim other [
-      | inl there ↦ others e there.0 (h.first e (subst (λ (x : Drive X). IsSome (latched_on x.stack)) there.1 away))
-      | inr none ↦ (let bad : IsSome (latched_on (drive_with {X = X} [] []).stack) = subst (λ (x : Drive X). IsSome (latched_on x.stack)) none away in absurd cc)
-    ]
+    | inr (inl there) ↦ others e there.0 (h.first e (subst (λ (x : Drive X). IsSome (latched_on x.stack)) there.1 away))
+    | inr (inr none) ↦ (let bad : IsSome (latched_on (drive_with {X = X} [] []).stack) = subst (λ (x : Drive X). IsSome (latched_on x.stack)) none away in absurd cc)
   ]
 
   pub lie_put : AreInSlots bin → AreInSlots (drop 1 r.stack) → (IsSome (latched_on r.stack) → after d) → ((e : ℕ) → e ≢ d → before e → after e)

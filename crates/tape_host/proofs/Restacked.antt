@@ -1,23 +1,12 @@
 -- What an operator's order leaves of a host.
 use Rattle.std.proofs.Common.{◌≡◌, ◌≢◌, ℕ, ◌+◌, Bool, false, List, length, map, option_map, Option, Some, Result, Ok, Err, MatchResult, refl, sym, ap, subst, ◌∙◌, inl, inr, arith}
-use Rattle.drives.specs.declared.fault.DriveFault.{DriveFault}
-use Rattle.drives.specs.Arranging.{arranged}
-use Rattle.drives.specs.TapeLibrary.{TapeLibrary}
-use Rattle.drives.specs.Local.{IsSeatOf, IsHeldBy}
-use Rattle.drives.specs.ListLibrary.{ListLibrary, library_of, IsLibrary, troubled_in, StacksCanFail}
-use Rattle.drives.specs.Stacking.{HasLatched}
-use Rattle.rmt_server.specs.State.{state, drive_of, IsAt}
-use Rattle.rmt_server.specs.Memory.{in_memory}
-use Rattle.rmt_server.specs.ServerState.{server}
-use Rattle.tape_host.specs.declared.side.ServerConnection.{ServerConnection as RealServerConnection}
-use Rattle.tape_host.specs.declared.side.Next.{Next}
-use Rattle.tape_host.specs.declared.side.Next.TheVariants.{Nothing, Seat, Whole}
-use Rattle.tape_host.specs.Servers.{hosted, restacked}
-use Rattle.tape_host.specs.Hosting.{MemoryDrives, MemorySessionState, idle_session_state, seen_side, server_of, IsIdleSession, IsNextWaiting, IsHosting}
-use Rattle.tape_host.specs.Lying.{AreInSlotsExcept, IsOnlineAt}
+use Rattle.tape_host.proofs.Names.{false_from_ne_true, DriveFault, arranged, TapeLibrary, IsSeatOf, IsHeldBy, ListLibrary, library_of, IsLibrary, troubled_in}
+use Rattle.tape_host.proofs.Names.{StacksCanFail, HasLatched, state, drive_of, IsAt, in_memory, server, RealServerConnection, Next, Nothing, Seat, Whole}
+use Rattle.tape_host.proofs.Names.{hosted, restacked, MemoryDrives, MemorySessionState, idle_session_state, seen_side, server_of, IsIdleSession, IsNextWaiting}
+use Rattle.tape_host.proofs.Names.{IsHosting, AreInSlotsExcept, IsOnlineAt}
 use Rattle.tape_host.proofs.Lying.{lie_arranged}
 use Rattle.tape_host.proofs.Tidied.{none_online}
-use Rattle.tape_host.proofs.Hosted.{false_unless, none_unless}
+use Rattle.tape_host.proofs.Hosted.{none_unless}
 
 -- what the laws of sessions say
 abbrev pub LeavesFree : Type 0
@@ -74,7 +63,7 @@ module _ (free : LeavesFree) (elsewhere : StaysElsewhere) {drives : MemoryDrives
         waiting = waiting_stays (length sides) next h.waiting;
         told = told;
         paired = h.paired ∙ sym same;
-        quiet = false_unless stacks.trouble (λ t. untroubled (quiet (inl t)));
+        quiet = false_from_ne_true stacks.trouble (λ t. untroubled (quiet (inl t)));
         lying = none_unless (troubled_in stacks.library) (λ x. untroubled (quiet (inr x)));
         tidy = restacked_tidy names result order;
       }

@@ -1,31 +1,11 @@
 -- How reels are latched and laid back with what the sides of a server have open.
-use Rattle.std.proofs.Common.{◌≡◌, ◌≢◌, ◌⊎◌, ℕ, zero, suc, ◌≤◌, Bool, true, false, List, [], ◌∷◌, ◌++◌, length, map, option_map, Option, Some, None, MatchOption, Result, Ok, Err, refl, sym, ap, subst, ◌∙◌, inl, inr, arith}
-use Rattle.std.proofs.lemmas.List.{map-append}
-use Rattle.rmt_wire.specs.Request.{PlainRequest}
-use Rattle.rmt_wire.specs.Request.PlainRequest.{Open, Close, Write, WriteDropped, Read, Op}
-use Rattle.rmt_wire.specs.Reply.{PlainReply}
-use Rattle.tape.specs.Trouble.{TroubledTape}
-use Rattle.tape.specs.Tape.{entries_of}
-use Rattle.tape.specs.declared.trouble.Trouble.{Trouble}
-use Rattle.drives.specs.declared.fault.DriveFault.{DriveFault}
-use Rattle.drives.specs.declared.fault.DriveFault.TheVariants.{NoSuchDrive, Busy, NoReel, Device, OutOfMemory, NameTaken}
-use Rattle.drives.specs.TapeLibrary.{TapeLibrary, kept_reel}
-use Rattle.drives.specs.Opening.{OpenStep}
-use Rattle.rmt_server.specs.declared.access.Access.{Access}
-use Rattle.rmt_server.specs.declared.session.session_state.Opened.{Opened}
-use Rattle.rmt_server.specs.Access.{access_of}
-use Rattle.rmt_server.specs.Refusals.{refused}
-use Rattle.rmt_server.specs.Session.{PlainReel, PlainSession, SessionView, status_of, refusal, closed, closed_library, session_after, is_offline, MovesAs}
-use Rattle.rmt_server.specs.Session.PlainSession.{Idle, Offline, Online}
-use Rattle.rmt_server.specs.State.{drive_of}
-use Rattle.rmt_server.specs.Memory.{session_with, session_seen}
-use Rattle.rmt_server.specs.TroubledServe.{drive_in, with_holder, TroubledReelStep, TroubledMoveStep, TroubledOpStep, TroubledDoneStep, TroubledOpenStep, TroubledServeStep}
-use Rattle.rmt_server.specs.ServerState.{ServerConnection}
-use Rattle.drives.specs.ListLibrary.{is_set}
-use Rattle.tape_host.specs.declared.side.ServerConnection.{ServerConnection as RealServerConnection}
-use Rattle.tape_host.specs.Servers.{side_at, with_side_at}
-use Rattle.tape_host.specs.Lying.{AreInSlotsExcept, online_drive_in, online_by, IsOnlineAt}
-use Rattle.tape_host.specs.Hosting.{seen_side}
+use Rattle.std.proofs.Common.{◌≡◌, ◌≢◌, ◌⊎◌, ℕ, zero, suc, ◌≤◌, Bool, true, false, List, [], ◌∷◌, ◌++◌, length, map, option_map, Option, Some, None, MatchOption, Result, Ok, Err, refl, sym, ap, subst, ◌∙◌, inl, inr}
+use Rattle.tape_host.proofs.Names.{cases_eq, map-append, PlainRequest, Open, Close, Op, PlainReply, TroubledTape, entries_of, Trouble, DriveFault, NoSuchDrive}
+use Rattle.tape_host.proofs.Names.{Busy, TapeLibrary, kept_reel, OpenStep, Access, Opened, access_of, refused, PlainReel, PlainSession, SessionView, status_of}
+use Rattle.tape_host.proofs.Names.{refusal, closed, closed_library, session_after, is_offline, MovesAs, Idle, Offline, Online, drive_of, session_with}
+use Rattle.tape_host.proofs.Names.{session_seen, drive_in, with_holder, TroubledReelStep, TroubledMoveStep, TroubledOpStep, TroubledDoneStep, TroubledOpenStep}
+use Rattle.tape_host.proofs.Names.{TroubledServeStep, ServerConnection, is_set, RealServerConnection, side_at, with_side_at, AreInSlotsExcept, online_drive_in}
+use Rattle.tape_host.proofs.Names.{online_by, IsOnlineAt, seen_side}
 use Rattle.tape_host.proofs.Lying.{lie_laid, lie_latched, lie_moved}
 use Rattle.tape_host.proofs.Sides.{side_within, side_other, side_same, side_map, map_with, at_more}
 
@@ -66,10 +46,7 @@ module _ (others : ℕ → Type 0) where
       (lie_latched s opened.0 (Either None others) (Either (Some opened.0) others) h (taken_up opened.0) (inl refl))
   latched_fits device asked access (Err NoSuchDrive) s now step h = same_library s now step.1 h
   latched_fits device asked access (Err (Busy n)) s now step h = same_library s now step.3 h
-  latched_fits device asked access (Err NoReel) s now step h = same_library s now step.3.1 h
-  latched_fits device asked access (Err Device) s now step h = same_library s now step.3.1 h
-  latched_fits device asked access (Err OutOfMemory) s now step h = same_library s now step.3.1 h
-  latched_fits device asked access (Err NameTaken) s now step h = same_library s now step.3.1 h
+  latched_fits device asked access (Err _) s now step h = same_library s now step.3.1 h
 
   opened_fits : (trouble : Trouble) (holders : List ℕ) (v : SessionView) (device : List ℕ) (access : Option Access) (reply : PlainReply) (w : SessionView)
       → v.session ≡ Idle → TroubledOpenStep trouble holders v device access reply w → Fits v.library v.session → Fits w.library w.session
@@ -113,30 +90,20 @@ module _ (others : ℕ → Type 0) where
   served_fits trouble holders v Close reply w step h =
       unless_refused (refusal (status_of v.session) Close) refused (TroubledDoneStep trouble v Close reply w) v reply w step
       (λ done. same_fits (closed v) w done.1 (closed_fits v.library v.session h)) h
-  served_fits trouble holders v (Write bytes) reply w step h =
-      unless_refused (refusal (status_of v.session) (Write bytes)) refused (TroubledDoneStep trouble v (Write bytes) reply w) v reply w step
-      (λ done. reel_fits trouble v (Write bytes) reply w done h) h
-  served_fits trouble holders v (WriteDropped count) reply w step h =
-      unless_refused (refusal (status_of v.session) (WriteDropped count)) refused (TroubledDoneStep trouble v (WriteDropped count) reply w) v reply w step
-      (λ done. reel_fits trouble v (WriteDropped count) reply w done h) h
-  served_fits trouble holders v (Read count) reply w step h =
-      unless_refused (refusal (status_of v.session) (Read count)) refused (TroubledDoneStep trouble v (Read count) reply w) v reply w step
-      (λ done. reel_fits trouble v (Read count) reply w done h) h
   served_fits trouble holders v (Op op count) reply w step h =
       unless_refused (refusal (status_of v.session) (Op op count)) refused (TroubledDoneStep trouble v (Op op count) reply w) v reply w step
       (λ done. op_fits (is_offline op) trouble v op count reply w done h) h
+  served_fits trouble holders v request reply w step h =
+      unless_refused (refusal (status_of v.session) request) refused (TroubledDoneStep trouble v request reply w) v reply w step (λ done. reel_fits trouble v request reply w done h) h
 
 -- ---- the sides of all connections
-
-eq_or_ne : (m n : ℕ) → (m ≡ n) ⊎ (m ≢ n)
-eq_or_ne m n = grind arith
 
 -- the side of a connection other than k has that drive open with its reel
 abbrev pub OnlineBeside : List (Option ServerConnection) → ℕ → ℕ → Type 0
 OnlineBeside sides k d = (j : ℕ) × (j ≢ k) × (online_by (side_at sides j) ≡ Some d)
 
 by_one : (sides : List (Option ServerConnection)) (k d : ℕ) (own : Option ServerConnection) → side_at sides k ≡ own → IsOnlineAt sides d → Either (online_by own) (OnlineBeside sides k) d
-by_one sides k d own is (j, online) = elim (eq_or_ne j k) [
+by_one sides k d own is (j, online) = elim (cases_eq j k) [
   | inl same ↦ inl (sym (ap online_by (ap (side_at sides) same ∙ is)) ∙ online)
   | inr apart ↦ inr (j, apart, online)
 ]

@@ -1,36 +1,18 @@
 -- What one turn of a session leaves of a host.
-use Rattle.std.proofs.Common.{◌≡◌, ◌≢◌, ◌⊎◌, ℕ, ◌<◌, Bool, List, length, map, slice_set, slice_index, option_map, Option, Some, None, refl, sym, ap, subst, ◌∙◌, inl, inr, arith}
-use Rattle.std.proofs.lemmas.List.{get_or-set_same, get_or-set_other, length-set}
-use Rattle.std.proofs.lemmas.Option.{same_Some}
-use Rattle.rmt_wire.specs.Request.{PlainRequest}
-use Rattle.rmt_wire.specs.Reply.{PlainReply}
-use Rattle.rmt_wire.specs.RequestReader.{RequestHeld, Unread}
-use Rattle.tape.specs.declared.trouble.Trouble.{Trouble}
-use Rattle.drives.specs.Local.{IsHeldBy}
-use Rattle.drives.specs.ListLibrary.{library_of}
-use Rattle.rmt_server.specs.State.{state}
-use Rattle.rmt_server.specs.Memory.{MemoryState, session_seen, session_view_seen}
-use Rattle.rmt_server.specs.TroubledServe.{drive_in, with_holder, TroubledServe}
-use Rattle.rmt_server.specs.ServerState.{server}
-use Rattle.tape_host.specs.declared.side.ServerConnection.{ServerConnection as RealServerConnection}
-use Rattle.tape_host.specs.declared.side.Next.{Next}
-use Rattle.tape_host.specs.declared.turn.Turn.{Turn}
+use Rattle.std.proofs.Common.{◌≡◌, ◌⊎◌, ℕ, ◌<◌, Bool, List, length, map, slice_set, slice_index, option_map, Option, Some, None, refl, sym, ap, subst, ◌∙◌, inl, inr, arith}
+use Rattle.tape_host.proofs.Names.{cases_eq, get_or-set_same, get_or-set_other, length-set, same_Some, PlainRequest, PlainReply, RequestHeld, Unread, Trouble}
+use Rattle.tape_host.proofs.Names.{IsHeldBy, library_of, state, MemoryState, session_seen, session_view_seen, drive_in, with_holder, TroubledServe, server}
+use Rattle.tape_host.proofs.Names.{RealServerConnection, Next, Turn, Hosted, hosted, side_at, with_side_at, TurnsAt, with_back, MemoryDrives, seen_side}
+use Rattle.tape_host.proofs.Names.{server_of, IsLive, IsNextWaiting, IsHosting, IsCarried, TurnsSession, session_back, AreInSlotsExcept, IsOnlineAt}
 use Rattle.tape_host.specs.declared.turn.Turn.TheVariants as turns
-use Rattle.tape_host.specs.Servers.{Hosted, hosted, side_at, with_side_at}
-use Rattle.tape_host.specs.Turns.{TurnsAt, with_back}
-use Rattle.tape_host.specs.Hosting.{MemoryDrives, seen_side, server_of, IsLive, IsNextWaiting, IsHosting, IsUntroubledAt, IsCarried, TurnsSession, session_back}
-use Rattle.tape_host.proofs.Sides.{side_within, side_other, side_same, side_map, length_with, map_with, with_own}
-use Rattle.tape_host.specs.Lying.{AreInSlotsExcept, IsOnlineAt}
+use Rattle.tape_host.proofs.Sides.{side_within, side_map, length_with, map_with, with_own, side_here, side_replaced, still_there}
 use Rattle.tape_host.proofs.Tidied.{OnlineBeside, served_fits, side_tidy}
 use Rattle.tape_host.proofs.Ended.{OthersStay, live_stays, waiting_stays}
-
-eq_or_ne : (m n : ℕ) → (m ≡ n) ⊎ (m ≢ n)
-eq_or_ne m n = grind arith
 
 -- who holds a drive once one drive has this holder
 holder_set : (drive : Option ℕ) (m d n : ℕ) (holders : List ℕ) → d < length holders → slice_index (with_holder drive m holders) d ≡ n → (n ≡ m) ⊎ (slice_index holders d ≡ n)
 holder_set None m d n holders l e = inr e
-holder_set (Some drive) m d n holders l e = elim (eq_or_ne d drive) [
+holder_set (Some drive) m d n holders l e = elim (cases_eq d drive) [
   | inl same ↦ inl (sym e ∙ ap (slice_index (slice_set holders drive m)) same ∙ get_or-set_same holders drive m 0 (subst (λ x. x < length holders) same l))
   | inr other ↦ inr (sym (get_or-set_other holders drive d m 0 other) ∙ e)
 ]
@@ -51,35 +33,19 @@ holder_after before after k d n holders l e x =
       ]
     ]
 
-pub untroubled_at : (drives : MemoryDrives) (sides : List (Option RealServerConnection)) (next : Next) (k : ℕ) (s : RealServerConnection) → IsHosting drives sides next → side_at sides k ≡ Some s
-    → IsUntroubledAt (state drives s.session)
-untroubled_at drives sides next k s h is = let l = h.live k s is in record { at = l.at; told = h.told; untroubled = record { online = l.untroubled; next = h.quiet; lying = h.lying } }
-
 module _ (others : OthersStay) {drives drives' : MemoryDrives} {sides : List (Option RealServerConnection)} {next : Next} (h : IsHosting drives sides next) (k : ℕ)
     (s after : RealServerConnection) (is : side_at sides k ≡ Some s) (readable : (bytes : List ℕ) × Unread after.reader bytes) (trouble : Trouble)
     (request : PlainRequest) (reply : PlainReply) (c : IsCarried trouble (state drives s.session) request reply (state drives' after.session)) where
   live : IsLive drives k s
   live = h.live k s is
 
-  here : side_at (with_side_at sides k (Some after)) k ≡ Some after
-  here = let within = side_within sides k s is in side_same sides k (Some after) within.0 within.1
-
   after_live : IsLive drives' k after
   after_live = record { at = c.untroubled.at; number = c.kept.number ∙ live.number; readable = readable; untroubled = c.untroubled.untroubled.online }
 
   carried_live : (n : ℕ) (x : RealServerConnection) → side_at (with_side_at sides k (Some after)) n ≡ Some x → IsLive drives' n x
-  carried_live n x e = elim (eq_or_ne n k) [
-    | inl same ↦ (
-        let found = subst (λ m. side_at (with_side_at sides k (Some after)) m ≡ Some x) same e in
-        subst (λ m. IsLive drives' m x) (sym same) (subst (IsLive drives' k) (same_Some after x (sym here ∙ found)) after_live))
-    | inr apart ↦ live_stays others live.number live.at c.untroubled.at c.kept n x apart (h.live n x (sym (side_other sides k n (Some after) apart) ∙ e))
-  ]
-
-  -- a side stays at its place
-  still_there : (n : ℕ) → (x : RealServerConnection) × (side_at sides n ≡ Some x) → (x : RealServerConnection) × (side_at (with_side_at sides k (Some after)) n ≡ Some x)
-  still_there n found = elim (eq_or_ne n k) [
-    | inl same ↦ (after, ap (side_at (with_side_at sides k (Some after))) same ∙ here)
-    | inr apart ↦ (found.0, side_other sides k n (Some after) apart ∙ found.1)
+  carried_live n x e = elim (side_replaced sides k n s (Some after) (Some x) is e) [
+    | inl own ↦ subst (λ m. IsLive drives' m x) (sym own.0) (subst (IsLive drives' k) (same_Some after x own.1) after_live)
+    | inr other ↦ live_stays others live.number live.at c.untroubled.at c.kept n x other.0 (h.live n x other.1)
   ]
 
   carried_held : (d n : ℕ) → IsHeldBy drives'.holds d n → 0 < n → (x : RealServerConnection) × (side_at (with_side_at sides k (Some after)) n ≡ Some x)
@@ -87,8 +53,8 @@ module _ (others : OthersStay) {drives drives' : MemoryDrives} {sides : List (Op
       let l : d < length drives.holds.numbers = subst (λ m. d < m) c.kept.same_holds holder.0 in
       elim (holder_after (drive_in (session_seen s.session.opened)) (drive_in (session_seen after.session.opened)) s.session.seat.number d n drives.holds.numbers l
       (ap (λ l. slice_index l d) (sym c.served.held) ∙ holder.1) x) [
-        | inl mine ↦ (after, ap (side_at (with_side_at sides k (Some after))) (mine ∙ live.number) ∙ here)
-        | inr was ↦ still_there n (h.held d n (l, was) x)
+        | inl mine ↦ (after, ap (side_at (with_side_at sides k (Some after))) (mine ∙ live.number) ∙ side_here sides k s (Some after) is)
+        | inr was ↦ still_there sides k n s after is (h.held d n (l, was) x)
       ]
 
   carried_tidy : AreInSlotsExcept (library_of drives'.stacks) (IsOnlineAt (map (option_map seen_side) (with_side_at sides k (Some after))))
@@ -170,11 +136,3 @@ module _ (others : OthersStay) {drives : MemoryDrives} (drives' : MemoryDrives) 
       let old = hosted (server_of drives sides) ready in
       subst (λ o. TurnsAt old trouble lost (with_back old back) k o turn (with_back new back')) (sym (side_map seen_side sides k ∙ ap (option_map seen_side) is))
       (subst (λ v. TurnsAt old trouble lost (with_back old back) k (Some (seen_side s)) turn (with_back v back')) (sym e) (turned_from turn ready t))
-
--- a side that is not live takes no turn
-pub turned_none : (drives : MemoryDrives) (sides : List (Option RealServerConnection)) (ready : Bool) (k : ℕ) (trouble : Trouble) (lost : Bool) (back : List ℕ) (new : Hosted)
-    → side_at sides k ≡ None → new ≡ hosted (server_of drives sides) ready
-    → TurnsAt (hosted (server_of drives sides) ready) trouble lost (with_back (hosted (server_of drives sides) ready) back) k (side_at (map (option_map seen_side) sides) k) turns.Nothing (with_back new back)
-turned_none drives sides ready k trouble lost back new is e =
-    let old = hosted (server_of drives sides) ready in
-    subst (λ o. TurnsAt old trouble lost (with_back old back) k o turns.Nothing (with_back new back)) (sym (side_map seen_side sides k ∙ ap (option_map seen_side) is)) (refl, e, refl)

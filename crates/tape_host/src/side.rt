@@ -1,5 +1,5 @@
 //! The server's side of one connection.
-ghost use Rattle.std.specs.Prelude.{◌≡◌, ◌≤◌, true, Some, None, MatchResult, length, vec_capacity};
+ghost use Rattle.std.specs.Prelude.{◌≡◌, ◌≤◌, true, Some, None, MatchResult, length, vec_len, vec_capacity};
 ghost use Rattle.std.specs.Option.{option_copied};
 ghost use Rattle.drives.specs.Holding.{HoldsJust};
 ghost use Rattle.tape_host.specs.Servers.{side_at, with_side_at};
@@ -107,6 +107,7 @@ pub(crate) fn take_side(
 ) -> Option<ServerConnection>
     ensures taken { result ≡ side_at sides.old.items connection }
     ensures left { sides.new.items ≡ with_side_at sides.old.items connection None }
+    ensures len { vec_len sides.new ≡ vec_len sides.old }
     ensures room { vec_capacity sides.new ≡ vec_capacity sides.old }
 {
     if connection == 0 || sides.len() < connection {
@@ -125,6 +126,7 @@ pub(crate) fn put_side(
     requires first { 1 ≤ connection }
     requires last { connection ≤ length sides.old.items }
     ensures put { sides.new.items ≡ with_side_at sides.old.items connection (Some side) }
+    ensures len { vec_len sides.new ≡ vec_len sides.old }
     ensures room { vec_capacity sides.new ≡ vec_capacity sides.old }
 {
     let place = &mut sides[connection - 1];

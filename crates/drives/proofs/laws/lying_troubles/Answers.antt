@@ -1,14 +1,12 @@
-use Rattle.drives.proofs.Lying.{lying_latched, lying_laid, lying_moved, same_drives}
+use Rattle.drives.specs.Calls.StacksCall.{Latch, LayBack, Move}
+use Rattle.drives.proofs.Elsewhere.{latched_in}
+use Rattle.drives.proofs.Lying.{lying, same_drives}
 use Rattle.drives.proofs.laws.lying_troubles.Goals as goal
 
-pub returns-clause-latched : goal.returns-clause-latched
-returns-clause-latched c = lying_latched
-
-pub returns-clause-laid_back : goal.returns-clause-laid_back
-returns-clause-laid_back c = λ old new d reel at. lying_laid old new at.1 d reel at.0 at.2 at.3
-
-pub returns-clause-moved : goal.returns-clause-moved
-returns-clause-moved c = λ old new d reel result at. lying_moved old new at.1 d reel result at.0 at.2 at.3
-
-pub returns-clause-same_drives : goal.returns-clause-same_drives
-returns-clause-same_drives c = same_drives
+pub returns : goal.returns
+returns c = record {
+  latched = λ old new d result l. lying old new (Latch d result) l;
+  laid_back = λ old new d reel at. lying old new (LayBack d reel) (at.0, latched_in old at.1 d at.2 at.3);
+  moved = λ old new d reel result at. lying old new (Move d reel result) (at.0, latched_in old at.1 d at.2 at.3);
+  same_drives = same_drives;
+}

@@ -1,8 +1,5 @@
 use Rattle.std.proofs.Common.{◌<◌, [], Some, None, sym, ap, subst, ◌∙◌}
-use Rattle.std.specs.List.{position_from}
-use Rattle.std.specs.Str.{bytes_eq}
-use Rattle.tape.specs.Trouble.{TroubledTape}
-use Rattle.drives.specs.TapeLibrary.{ReelSlot, slot}
+use Rattle.drives.proofs.Names.{position_from, bytes_eq, TroubledTape, ReelSlot, slot}
 use Rattle.drives.proofs.Arranging.{place_none, place_some}
 use Rattle.drives.proofs.pick.take_out.Goals as goal
 

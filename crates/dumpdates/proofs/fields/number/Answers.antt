@@ -1,11 +1,6 @@
 use Rattle.std.proofs.Common.{◌≡◌, ◌<◌, ◌≤◌, length, take, arith, get_or, false, sym, ◌∙◌}
-use Rattle.std.proofs.lemmas.Bool.{OnTrue_at, both_ways}
-use Rattle.std.proofs.lemmas.Bool.Decides.{nat_tests}
+use Rattle.dumpdates.proofs.Terms.{OnTrue_at, both_ways, nat_tests, length-take-le, digit_at, digit_from_value, digit_value, is_ascii_digit, digits_value}
 use Rattle.std.proofs.lemmas.Int.Digits.{digits_more, digits_value_more}
-use Rattle.std.proofs.lemmas.List.{length-take-le}
-use Rattle.std.proofs.lemmas.Str.Parse.{digit_at, digit_from_value}
-use Rattle.std.specs.Char.{digit_value, is_ascii_digit}
-use Rattle.std.specs.Str.Parse.{digits_value}
 use Rattle.dumpdates.proofs.Digits.{below_power, digit_known}
 use Rattle.dumpdates.proofs.fields.number.Goals as goal
 

@@ -1,4 +1,4 @@
-use Rattle.std.proofs.lemmas.List.{take_rest}
+use Rattle.dumpdates.proofs.Terms.{take_rest}
 use Rattle.dumpdates.proofs.Timing.{spelled_is_time, time_spelled}
 use Rattle.dumpdates.proofs.fields.time_of.Goals as goal
 

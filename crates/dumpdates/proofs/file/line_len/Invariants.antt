@@ -1,6 +1,5 @@
 use Rattle.std.proofs.Common.{◌≡◌, ◌+◌, drop, eqb}
-use Rattle.std.specs.List.{position_or_len}
-use Rattle.dumpdates.specs.Text.{line_feed}
+use Rattle.dumpdates.proofs.Terms.{position_or_len, line_feed}
 use Rattle.dumpdates.proofs.file.line_len.Given as goal
 
 -- what was passed, and what the rest says

@@ -1,7 +1,5 @@
 use Rattle.std.proofs.Common.{◌∙◌, refl, sym}
-use Rattle.std.proofs.lemmas.Bool.{false≢true}
-use Rattle.dumpdates.specs.FoundLine.{plain_words, plain_fields}
-use Rattle.dumpdates.specs.Line.{is_space}
+use Rattle.dumpdates.proofs.Terms.{false≢true, plain_words, plain_fields, is_space}
 use Rattle.dumpdates.proofs.Shapes.{all_from_test, not_blank, no_words, other_words, words_shape, found_entry, spelled_is_entry}
 use Rattle.dumpdates.proofs.line.line_of.Goals as goal
 

@@ -1,5 +1,5 @@
 use Rattle.std.proofs.Common.{◌≡◌, ◌++◌, ◌∙◌, ap, sym, length, take, drop, filter}
-use Rattle.dumpdates.specs.Stored.{plain_entry, is_other}
+use Rattle.dumpdates.proofs.Terms.{plain_entry, is_other}
 use Rattle.dumpdates.proofs.Entering.{cut_behind}
 use Rattle.dumpdates.proofs.list.drop_same.Goals as goal
 

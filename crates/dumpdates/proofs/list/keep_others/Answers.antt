@@ -1,8 +1,5 @@
 use Rattle.std.proofs.Common.{◌≡◌, ◌<◌, true, false, length, arith, ◌∙◌, sym, get_or}
-use Rattle.std.proofs.lemmas.Bool.{not_from_true, not_from_false}
-use Rattle.std.proofs.lemmas.List.{get_or_default}
-use Rattle.std.proofs.lemmas.List.Filters.{FiltersInPlace-more_no, FiltersInPlace-more_swap}
-use Rattle.dumpdates.specs.Stored.{plain_entry, is_other}
+use Rattle.dumpdates.proofs.Terms.{not_from_true, not_from_false, get_or_default, FiltersInPlace-more_no, FiltersInPlace-more_swap, plain_entry, is_other}
 use Rattle.dumpdates.proofs.list.keep_others.Goals as goal
 use Rattle.dumpdates.proofs.list.keep_others.Goals.{then-not-is_same, else-not-is_same}
 

@@ -1,5 +1,4 @@
-use Rattle.std.proofs.lemmas.List.Filters.{FiltersInPlace}
-use Rattle.dumpdates.specs.Stored.{plain_entry, is_other}
+use Rattle.dumpdates.proofs.Terms.{FiltersInPlace, plain_entry, is_other}
 use Rattle.dumpdates.proofs.list.keep_others.Given as goal
 
 abbrev pub invariant-loop-at : goal.invariant-loop-at

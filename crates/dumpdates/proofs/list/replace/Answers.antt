@@ -1,7 +1,5 @@
 use Rattle.std.proofs.Common.{◌≡◌, true, ◌∙◌, ap}
-use Rattle.std.proofs.lemmas.List.Quantifiers.{position-Some}
-use Rattle.dumpdates.specs.Dates.{is_same}
-use Rattle.dumpdates.specs.Stored.{plain_entry, plain_stored, plain_all}
+use Rattle.dumpdates.proofs.Terms.{position-Some, is_same, plain_entry, plain_stored, plain_all}
 use Rattle.dumpdates.proofs.Entering.{replaced, same_dated}
 use Rattle.dumpdates.proofs.list.replace.Goals as goal
 

@@ -1,7 +1,5 @@
 use Rattle.std.proofs.Common.{◌≡◌, arith, pos, ap, ◌∙◌, to_z, w64}
-use Rattle.jiff_core.proofs.SignedLemmas.{signed_casts}
-use Rattle.jiff_core.specs.Date.{epoch_day}
-use Rattle.dumpdates.specs.Moment.{day_numbered}
+use Rattle.dumpdates.proofs.Terms.{signed_casts, epoch_day, day_numbered}
 use Rattle.dumpdates.proofs.Days.{first_is_zero, days_later}
 use Rattle.dumpdates.proofs.moment.day_numbered.Goals as goal
 

@@ -1,8 +1,6 @@
 use Rattle.std.proofs.Common.{arith, rules, pos, ◌≤ℤ◌, refl, ◌∙◌, w8, w16}
 use mir.Facts.{to_z_pos}
-use Rattle.jiff_core.proofs.CalendarLemmas.{days_in_month_bounds}
-use Rattle.jiff_core.proofs.SignedLemmas.{signed_casts}
-use Rattle.jiff_core.specs.Date.{epoch_day}
+use Rattle.dumpdates.proofs.Terms.{days_in_month_bounds, signed_casts, epoch_day}
 use Rattle.dumpdates.proofs.Days.{civil_of, epoch_day_from_1970}
 use Rattle.dumpdates.proofs.moment.seconds_of.Goals as goal
 
@@ -24,9 +22,6 @@ returns-clause-given c = (
   },
   λ m. refl,
 )
-
-pub returns-clause-value : goal.returns-clause-value
-returns-clause-value c = search rules
 
 pub returns-then-year-lt1970-clause-given : goal.returns-then-year-lt1970-clause-given
 returns-then-year-lt1970-clause-given c = (

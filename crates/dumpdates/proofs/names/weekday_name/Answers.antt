@@ -1,8 +1,5 @@
 use Rattle.std.proofs.Common.{◌≡◌, ◌+◌, ◌%◌, arith, pos}
-use Rattle.jiff_core.specs.Calendar.{weekday_number}
-use Rattle.jiff_core.proofs.CalendarLemmas.{weekday_number-parts}
-use Rattle.jiff_core.proofs.SignedLemmas.{signed_arith}
-use Rattle.dumpdates.specs.Names.{weekday_name}
+use Rattle.dumpdates.proofs.Terms.{weekday_number, weekday_number-parts, signed_arith, weekday_name}
 use Rattle.dumpdates.proofs.Naming.{now_at}
 use Rattle.dumpdates.proofs.names.weekday_name.Goals as goal
 

@@ -1,6 +1,5 @@
 use Rattle.std.proofs.Common.{◌≡◌, ◌+◌, drop}
-use Rattle.std.specs.List.{prefix_len}
-use Rattle.dumpdates.specs.Line.{is_space}
+use Rattle.dumpdates.proofs.Terms.{prefix_len, is_space}
 use Rattle.dumpdates.proofs.words.space_len.Given as goal
 
 -- what was passed, and what the rest says

@@ -1,6 +1,5 @@
 use Rattle.std.proofs.Common.{◌≡◌, ◌++◌, take}
-use Rattle.dumpdates.specs.Stored.{plain_all}
-use Rattle.dumpdates.specs.Text.{written}
+use Rattle.dumpdates.proofs.Terms.{plain_all, written}
 use Rattle.dumpdates.proofs.writer.push_lines.Given as goal
 
 -- the lines of the entries so far

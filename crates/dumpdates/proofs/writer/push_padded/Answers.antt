@@ -1,5 +1,5 @@
 use Rattle.std.proofs.Common.{◌≡◌, ◌-◌, ◌++◌, ap, ◌∙◌, length, replicate, take, drop}
-use Rattle.dumpdates.specs.Text.{space}
+use Rattle.dumpdates.proofs.Terms.{space}
 use Rattle.dumpdates.proofs.Writing.{last_onto, padding}
 use Rattle.dumpdates.proofs.writer.push_padded.Goals as goal
 

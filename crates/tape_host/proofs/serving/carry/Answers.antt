@@ -1,9 +1,5 @@
 use Rattle.std.proofs.Common.{sym, subst}
-use Rattle.rmt_wire.specs.Lent.{plain_request, plain_reply}
-use Rattle.rmt_server.specs.State.{state}
-use Rattle.rmt_server.specs.Carrying.{IsCarriedOut}
-use Rattle.rmt_server.specs.Memory.{in_memory}
-use Rattle.tape_host.specs.Hosting.{IsCarried}
+use Rattle.tape_host.proofs.Names.{plain_request, plain_reply, state, IsCarriedOut, in_memory, IsCarried}
 use Rattle.tape_host.proofs.Carrying.{Laws, carried_so}
 use Rattle.tape_host.proofs.serving.carry.Goals as goal
 

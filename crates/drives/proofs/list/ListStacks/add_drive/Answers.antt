@@ -1,4 +1,3 @@
-use Rattle.std.proofs.Common.{rules}
 use Rattle.drives.proofs.ListLibrary.{drive_told, drive_quiet, told}
 use Rattle.drives.proofs.list.ListStacks.add_drive.Goals as goal
 
@@ -10,9 +9,3 @@ returns-clause-told c = drive_told c.args.self.now c.put_drive.new.self c.args.n
 
 pub returns-clause-quiet : goal.returns-clause-quiet
 returns-clause-quiet c = drive_quiet c.args.self.now c.put_drive.new.self c.args.name.now c.put_drive.result c.put_drive.ensures
-
-pub returns-then-is_some-clause-added : goal.returns-then-is_some-clause-added
-returns-then-is_some-clause-added c = search rules
-
-pub put_drive-requires : goal.put_drive-requires
-put_drive-requires c = search rules

@@ -1,8 +1,5 @@
 use Rattle.std.proofs.Common.{◌≡◌, ◌<◌, MatchBool, subst, ap, ◌∙◌}
-use Rattle.std.specs.List.{list_any}
-use Rattle.std.specs.Str.{bytes_eq}
-use Rattle.drives.specs.ListLibrary.{ListLibrary}
-use Rattle.drives.specs.TapeLibrary.{library, times, names_in, EachReelOnce}
+use Rattle.drives.proofs.Names.{list_any, bytes_eq, ListLibrary, library, times, names_in, EachReelOnce}
 use Rattle.drives.proofs.Shops.{any_is_stacked, any_binned}
 use Rattle.drives.proofs.list.ListStacks.has_reel.Goals as goal
 

@@ -1,9 +1,7 @@
-use Rattle.drives.specs.TapeLibrary.{EachReelOnce}
+use Rattle.drives.proofs.Names.{EachReelOnce, library, ListLibrary, the_view}
 use Rattle.std.proofs.Common.{◌<◌, length, Some, sym, subst}
-use Rattle.drives.specs.ListLibrary.{ListLibrary}
-use Rattle.drives.specs.TapeLibrary.{library}
-use Rattle.drives.specs.contracts.list.ListStacks.{the_view}
-use Rattle.drives.proofs.ListLibrary.{stocked_first, value_some, read_some}
+use Rattle.drives.proofs.Elsewhere.{value_some}
+use Rattle.drives.proofs.ListLibrary.{stocked_first, read_some}
 use Rattle.drives.proofs.list.ListStacks.lay_first.Goals as goal
 
 pub unlatch-requires : goal.unlatch-requires
@@ -15,9 +13,6 @@ pub invariant_of-self : goal.invariant_of-self
 invariant_of-self c =
     stocked_first (library c.self.inside.drives.items c.self.inside.bin.items) c.args.drive c.index_mut-chosen.result.now c.unlatch.new.self (Some c.args.reel) _ _
     (subst (λ (s : ListLibrary). c.args.drive < length s.library.drives) (sym c.self.view_is) c.requires.drive) c.index_mut-chosen.ensures.value c.unlatch.ensures c.self.invariant
-
-pub returns-clause-some : goal.returns-clause-some
-returns-clause-some c = value_some (the_view c.self.inside) c.args.self.now c.args.drive _ _ c.self.view_is c.self.invariant c.requires.latched
 
 pub returns-clause-once : goal.returns-clause-once
 returns-clause-once c = subst (λ (s : ListLibrary). EachReelOnce s.library) c.self.view_is c.self.invariant.once

@@ -1,8 +1,5 @@
 use Rattle.std.proofs.Common.{◌≡◌, flat_map, Some, refl, subst, ap, ◌∙◌}
-use Rattle.std.specs.Option.{option_copied}
-use Rattle.drives.specs.Arranging.{slot_named}
-use Rattle.drives.specs.TapeLibrary.{slots_in}
-use Rattle.drives.specs.ListLibrary.{ListLibrary}
+use Rattle.drives.proofs.Names.{option_copied, slot_named, slots_in, ListLibrary}
 use Rattle.drives.proofs.Arranging.{found_or, found_below}
 use Rattle.drives.proofs.list.ListStacks.listed.Goals as goal
 

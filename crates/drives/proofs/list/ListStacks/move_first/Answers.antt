@@ -1,12 +1,8 @@
-use Rattle.drives.specs.TapeLibrary.{EachReelOnce}
-use Rattle.drives.specs.ListLibrary.{ListLibrary}
-use Rattle.std.proofs.Common.{rules, ◌<◌, vec_capacity, sym, subst, ap, ◌∙◌, ◌++◌, ◌∷◌, []}
-use Rattle.drives.specs.contracts.list.ListStacks.{the_view}
-use Rattle.drives.proofs.ListLibrary.{stocked_moved, value_some, read_some, room_some}
+use Rattle.drives.proofs.Names.{EachReelOnce, ListLibrary, the_view}
+use Rattle.std.proofs.Common.{◌<◌, vec_capacity, sym, subst, ap, ◌∙◌, ◌++◌, ◌∷◌, []}
+use Rattle.drives.proofs.Elsewhere.{value_some}
+use Rattle.drives.proofs.ListLibrary.{stocked_moved, read_some, room_some}
 use Rattle.drives.proofs.list.ListStacks.move_first.Goals as goal
-
-pub returns-then-self-clause-some : goal.returns-then-self-clause-some
-returns-then-self-clause-some c = value_some (the_view c.self.inside) c.args.self.now c.args.drive _ _ c.self.view_is c.self.invariant c.requires.latched
 
 pub remove_first-listed-requires : goal.remove_first-listed-requires
 remove_first-listed-requires c =
@@ -30,6 +26,3 @@ returns-then-self-clause-once c = subst (λ (s : ListLibrary). EachReelOnce s.li
 
 pub returns-clause-once : goal.returns-clause-once
 returns-clause-once c = subst (λ (s : ListLibrary). EachReelOnce s.library) c.self.view_is c.self.invariant.once
-
-pub returns-then-self-clause-back : goal.returns-then-self-clause-back
-returns-then-self-clause-back c = search rules

@@ -1,9 +1,6 @@
 use Rattle.std.proofs.Common.{◌≡◌, ◌<◌, ◌≤◌, ◌+◌, ◌++◌, ◌∷◌, [], length, Some, vec_capacity, sym, subst, ap, ◌∙◌, arith}
-use Rattle.std.proofs.lemmas.List.{set-get_or}
+use Rattle.drives.proofs.Names.{set-get_or, library, drive_with, times, names_in, ListLibrary, IsStocked, blank_reel}
 use Rattle.std.proofs.Common.{set}
-use Rattle.std.proofs.lemmas.Grind.{common_steps}
-use Rattle.drives.specs.TapeLibrary.{library, drive_with, times, names_in}
-use Rattle.drives.specs.ListLibrary.{ListLibrary, IsStocked, blank_reel}
 use Rattle.drives.proofs.ListLibrary.{stocked_reel, stocked_same, bin_fits}
 use Rattle.drives.proofs.list.ListStacks.put_reel.Goals as goal
 
@@ -32,9 +29,3 @@ invariant_of-self-2 c =
     let put = c.in_ok-push.ensures ∙ ap (λ x. drive_with c.index_mut-chosen.result.now.name (c.index_mut-chosen.result.now.stack ++ x ∷ [])) c.in_ok-reel.ensures in
     subst (λ bin. IsStocked (library (set drives c.args.drive c.push.new.self) bin) (c.self.inside.reels + 1) (vec_capacity c.reserve.new.self)) (sym c.reserve.ensures.items)
     (stocked_reel before c.args.drive c.index_mut-chosen.result.now c.push.new.self c.args.name.now (Some (blank_reel c.args.capacity)) c.self.inside.reels _ _ within c.index_mut-chosen.ensures.value put free more c.self.invariant)
-
-pub returns-in_err-push : goal.returns-in_err-push
-returns-in_err-push c = grind (arith, common_steps)
-
-pub returns : goal.returns
-returns c = grind (arith, common_steps)

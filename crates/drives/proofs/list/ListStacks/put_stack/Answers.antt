@@ -1,9 +1,5 @@
-use Rattle.std.proofs.Common.{arith, rules, ◌<◌, ◌≤◌, vec_capacity, ◌++◌, length, map, sym, subst, ap, ◌∙◌, set}
-use Rattle.std.proofs.lemmas.List.{set-get_or}
-use Rattle.std.proofs.lemmas.Grind.{common_steps}
-use Rattle.drives.specs.Arranging.{picked, left}
-use Rattle.drives.specs.TapeLibrary.{library, drive_with, EachReelOnce}
-use Rattle.drives.specs.ListLibrary.{ListLibrary}
+use Rattle.std.proofs.Common.{◌<◌, ◌≤◌, vec_capacity, ◌++◌, length, map, sym, subst, ap, ◌∙◌, set}
+use Rattle.drives.proofs.Names.{set-get_or, picked, left, library, drive_with, EachReelOnce, ListLibrary}
 use Rattle.drives.proofs.ListLibrary.{stocked_same}
 use Rattle.drives.proofs.Arranging.{stocked_arranged}
 use Rattle.drives.proofs.list.ListStacks.put_stack.Goals as goal
@@ -39,12 +35,3 @@ invariant_of-self-2 c =
     (c.pick.ensures.picked ∙ ap (λ xs. xs ++ picked names c.lay_off.new.bin.items) c.in_ok-stack.ensures.items ∙ ap (λ xs. picked names xs) pile)
     (c.pick.ensures.left ∙ ap (λ xs. left names xs) pile)
     (subst (λ n. vec_capacity c.self.inside.bin ≤ n) (sym c.pick.ensures.room) c.lay_off.ensures.room) c.self.invariant
-
-pub returns-in_err-stack-clause-arranged : goal.returns-in_err-stack-clause-arranged
-returns-in_err-stack-clause-arranged c = search rules
-
-pub returns-in_err-lay_off-clause-arranged : goal.returns-in_err-lay_off-clause-arranged
-returns-in_err-lay_off-clause-arranged c = grind (arith, common_steps)
-
-pub returns-clause-arranged : goal.returns-clause-arranged
-returns-clause-arranged c = grind (arith, common_steps)

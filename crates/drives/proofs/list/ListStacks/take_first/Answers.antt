@@ -1,8 +1,5 @@
-use Rattle.std.proofs.lemmas.Grind.{common_steps}
-use Rattle.drives.specs.TapeLibrary.{EachReelOnce}
-use Rattle.std.proofs.Common.{arith, ◌<◌, length, None, sym, subst}
-use Rattle.drives.specs.ListLibrary.{ListLibrary}
-use Rattle.drives.specs.TapeLibrary.{library}
+use Rattle.drives.proofs.Names.{EachReelOnce, library, ListLibrary}
+use Rattle.std.proofs.Common.{◌<◌, length, None, sym, subst}
 use Rattle.drives.proofs.ListLibrary.{stocked_first}
 use Rattle.drives.proofs.list.ListStacks.take_first.Goals as goal
 
@@ -24,12 +21,3 @@ returns-in_default-clause-once c = subst (λ (s : ListLibrary). EachReelOnce s.l
 
 pub returns-clause-once : goal.returns-clause-once
 returns-clause-once c = subst (λ (s : ListLibrary). EachReelOnce s.library) c.self.view_is c.self.invariant.once
-
-pub returns-then-is_ready-clause-latched : goal.returns-then-is_ready-clause-latched
-returns-then-is_ready-clause-latched c = grind (arith, common_steps)
-
-pub returns-in_default-clause-latched : goal.returns-in_default-clause-latched
-returns-in_default-clause-latched c = grind (arith, common_steps)
-
-pub returns-clause-latched : goal.returns-clause-latched
-returns-clause-latched c = grind (arith, common_steps)

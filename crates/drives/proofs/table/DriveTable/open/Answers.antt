@@ -1,8 +1,7 @@
 use Rattle.std.proofs.Common.{rules, refl, ℕ, ◌<◌, ◌≤◌, sym, subst, ◌∙◌, ap, ◌≡◌, Some, arith}
 use Rattle.drives.proofs.Held.{given_back}
 use Rattle.drives.proofs.Refused.{latch_refused, word_given_back}
-use Rattle.drives.specs.Holding.{given, last_drive}
-use Rattle.drives.specs.Opening.{kinds}
+use Rattle.drives.proofs.Names.{given, last_drive, kinds}
 use Rattle.drives.proofs.table.DriveTable.open.Goals as goal
 
 some_same : {a b : ℕ} → Some a ≡ Some b → a ≡ b

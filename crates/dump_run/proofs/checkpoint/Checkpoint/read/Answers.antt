@@ -1,6 +1,6 @@
 use Rattle.std.proofs.Common.{◌≤◌, ◌<◌, length, ap, subst, arith}
 use Rattle.std.proofs.lemmas.Result.{err_from_is_err_and}
-use Rattle.dump_run.specs.CheckpointParts.{AreOrdered}
+use Rattle.dump_run.proofs.Words.{AreOrdered}
 use Rattle.dump_run.proofs.Ordering.{whole_text, refused_counts, out_of_order, all_in_order}
 use Rattle.dump_run.proofs.checkpoint.Checkpoint.read.Goals as goal
 

@@ -1,6 +1,5 @@
 use Rattle.std.proofs.Common.{◌∷◌, ◌++◌, codes, subst, sym, ◌∙◌, append_assoc}
-use Rattle.dump_run.specs.CheckpointParts.{FindsCount}
-use Rattle.dump_run.specs.Checkpoint.{count_text}
+use Rattle.dump_run.proofs.Words.{FindsCount, count_text}
 use Rattle.dump_run.proofs.FieldCut.{count_lacks, one_cut, same_rest}
 use Rattle.dump_run.proofs.checkpoint.field.count_field.Goals as goal
 

@@ -1,5 +1,5 @@
 use Rattle.std.proofs.Common.{◌∷◌, ◌++◌, decimal, subst, sym, arith}
-use Rattle.dump_run.specs.CheckpointParts.{IsCountText}
+use Rattle.dump_run.proofs.Words.{IsCountText}
 use Rattle.dump_run.proofs.FieldCut.{no_cut, first_part, second_part}
 use Rattle.dump_run.proofs.checkpoint.field.count_of.Goals as goal
 

@@ -1,6 +1,5 @@
 use Rattle.std.proofs.Common.{codes, subst, sym}
-use Rattle.dump_run.specs.CheckpointParts.{FindsText}
-use Rattle.dump_run.specs.Run.{IsDevice}
+use Rattle.dump_run.proofs.Words.{FindsText, IsDevice}
 use Rattle.dump_run.proofs.FieldCut.{no_kind, other_kind, device_lacks}
 use Rattle.dump_run.proofs.checkpoint.field.device_field.Goals as goal
 

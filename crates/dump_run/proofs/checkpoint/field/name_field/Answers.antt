@@ -1,6 +1,5 @@
 use Rattle.std.proofs.Common.{subst, sym}
-use Rattle.dump_run.specs.CheckpointParts.{FindsText}
-use Rattle.dumpdates.specs.Entry.{IsName}
+use Rattle.dump_run.proofs.Words.{FindsText, IsName}
 use Rattle.dump_run.proofs.FieldCut.{no_kind, other_kind, name_lacks}
 use Rattle.dump_run.proofs.checkpoint.field.name_field.Goals as goal
 

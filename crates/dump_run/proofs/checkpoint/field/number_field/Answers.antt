@@ -1,5 +1,5 @@
 use Rattle.std.proofs.Common.{decimal, subst, sym, arith}
-use Rattle.dump_run.specs.CheckpointParts.{FindsNumber}
+use Rattle.dump_run.proofs.Words.{FindsNumber}
 use Rattle.dump_run.proofs.FieldCut.{lacks_decimal, number_there}
 use Rattle.dump_run.proofs.checkpoint.field.number_field.Goals as goal
 

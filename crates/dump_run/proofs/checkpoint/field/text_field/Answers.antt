@@ -1,7 +1,7 @@
 use Rattle.std.proofs.Common.{None, Some, subst, sym}
 use Rattle.std.proofs.lemmas.Bool.Decides.{Decides-eqb}
 use Rattle.std.proofs.lemmas.Slice.Eq.{strip_prefix_is}
-use Rattle.dump_run.specs.CheckpointParts.{FindsText, NoFeed}
+use Rattle.dump_run.proofs.Words.{FindsText, NoFeed}
 use Rattle.dump_run.proofs.FieldCut.{no_word, found_text}
 use Rattle.dump_run.proofs.checkpoint.field.text_field.Goals as goal
 

@@ -1,6 +1,5 @@
 use Rattle.std.proofs.Common.{◌+◌, get_or, sym, subst, arith}
-use Rattle.std.proofs.lemmas.Bool.{both_ways}
-use Rattle.dump_run.specs.CheckpointParts.{IsNext}
+use Rattle.dump_run.proofs.Words.{both_ways, IsNext}
 use Rattle.dump_run.proofs.Ordering.{zero_count, up_to_more, not_next, listed_there}
 use Rattle.dump_run.proofs.checkpoint.order.ordered.Goals as goal
 

@@ -1,5 +1,5 @@
 use Rattle.std.proofs.Common.{◌≡◌, ◌+◌, ◌-◌, length, ap, sym, ◌∙◌, arith}
-use Rattle.std.proofs.lemmas.List.{length-take-le}
+use Rattle.dump_run.proofs.Words.{length-take-le}
 use Rattle.dump_run.proofs.LabelText.{zeros_behind}
 use Rattle.dump_run.proofs.lines.TextLines.push.Goals as goal
 

@@ -1,5 +1,5 @@
 use Rattle.std.proofs.Common.{arith, length, ◌≡◌}
-use Rattle.std.proofs.lemmas.Bool.{both_ways}
+use Rattle.dump_run.proofs.Words.{both_ways}
 use Rattle.dump_run.proofs.LabelReading.{other_length, other_rest, whole_record}
 use Rattle.dump_run.proofs.volume_label.VolumeLabel.read.Goals as goal
 

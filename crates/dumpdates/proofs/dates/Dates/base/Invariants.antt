@@ -1,6 +1,5 @@
 use Rattle.std.proofs.Common.{◌≡◌, max, drop}
-use Rattle.dumpdates.specs.Dates.{base_of}
-use Rattle.dumpdates.specs.Stored.{plain_all}
+use Rattle.dumpdates.proofs.Terms.{base_of, plain_all}
 use Rattle.dumpdates.proofs.dates.Dates.base.Given as goal
 
 -- the greatest so far and the rest give the base date

@@ -1,6 +1,5 @@
-use Rattle.std.proofs.Common.{rules, ◌≡◌, ◌∙◌, sym, ap}
-use Rattle.dumpdates.specs.Dates.{others, entered}
-use Rattle.dumpdates.specs.Stored.{plain_entry}
+use Rattle.std.proofs.Common.{◌≡◌, ◌∙◌, sym, ap}
+use Rattle.dumpdates.proofs.Terms.{others, entered, plain_entry}
 use Rattle.dumpdates.proofs.Entering.{absent, on_err_any}
 use Rattle.dumpdates.proofs.dates.Dates.enter.Goals as goal
 
@@ -18,6 +17,3 @@ returns-in_ok-append-in-None-clause-entered c =
     let last = c.in_ok-append-in-None.ensures.last in
     let whole = sym a.1 ∙ ap (λ d. entered d e) c.self.view_is in
     cc
-
-pub returns-in-Some-clause-entered : goal.returns-in-Some-clause-entered
-returns-in-Some-clause-entered c = search rules

@@ -1,7 +1,5 @@
 use Rattle.std.proofs.Common.{◌+◌, ◌<◌, length, arith, sym, subst}
-use Rattle.std.proofs.lemmas.Result.{err_from_is_err_and}
-use Rattle.std.proofs.lemmas.List.{length-drop, take_rest}
-use Rattle.dumpdates.specs.Stored.{plain_all}
+use Rattle.dumpdates.proofs.Terms.{err_from_is_err_and, length-drop, take_rest, plain_all}
 use Rattle.dumpdates.proofs.Reading.{HasRead, line_refused, all_read, line_read}
 use Rattle.dumpdates.proofs.Once.{one_text, spelled_no_fault}
 use Rattle.dumpdates.proofs.dates.Dates.read.Goals as goal

@@ -1,5 +1,5 @@
 use Rattle.std.proofs.Common.{◌+◌, ◌≤◌, length}
-use Rattle.dumpdates.specs.Stored.{plain_all}
+use Rattle.dumpdates.proofs.Terms.{plain_all}
 use Rattle.dumpdates.proofs.Reading.{HasRead}
 use Rattle.dumpdates.proofs.dates.Dates.read.Given as goal
 

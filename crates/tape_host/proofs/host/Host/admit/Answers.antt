@@ -1,7 +1,5 @@
 use Rattle.std.proofs.Common.{false, [], ◌∷◌, ◌++◌, Some, sym, ap, subst, ◌∙◌}
-use Rattle.tape_host.specs.declared.side.Next.TheVariants.{Nothing}
-use Rattle.tape_host.specs.Servers.{Hosted, hosted, joined}
-use Rattle.tape_host.specs.Hosting.{server_of, is_whole_side, IsHosting}
+use Rattle.tape_host.proofs.Names.{Nothing, Hosted, hosted, joined, server_of, is_whole_side, IsHosting}
 use Rattle.tape_host.proofs.Hosted.{joined_hosting, joined_server}
 use Rattle.tape_host.proofs.host.Host.admit.Goals as goal
 

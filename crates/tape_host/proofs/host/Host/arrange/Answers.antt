@@ -1,7 +1,5 @@
 use Rattle.std.proofs.Common.{◌≡◌, map, IsTrue, MatchResult, sym, subst}
-use Rattle.drives.specs.Arranging.{may_arrange}
-use Rattle.tape_host.specs.Servers.{Hosted, hosted, restacked, IsHolder}
-use Rattle.tape_host.specs.Hosting.{server_of, is_whole_side}
+use Rattle.tape_host.proofs.Names.{may_arrange, Hosted, hosted, restacked, IsHolder, server_of, is_whole_side}
 use Rattle.tape_host.proofs.Restacked.{restacked_hosting, restacked_seen}
 use Rattle.tape_host.proofs.host.Host.arrange.Goals as goal
 

@@ -1,6 +1,5 @@
 use Rattle.std.proofs.Common.{◌≡◌, None, subst}
-use Rattle.drives.specs.TapeLibrary.{latched_at}
-use Rattle.tape_host.specs.Servers.{Hosted, IsHolder}
+use Rattle.tape_host.proofs.Names.{latched_at, Hosted, IsHolder}
 use Rattle.tape_host.proofs.Hosted.{unlatched}
 use Rattle.tape_host.proofs.host.Host.can_arrange.Goals as goal
 

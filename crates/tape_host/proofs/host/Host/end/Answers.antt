@@ -1,7 +1,6 @@
-use Rattle.std.proofs.Common.{None, length, sym, ap, subst, ◌∙◌, arith}
-use Rattle.tape_host.specs.Servers.{Hosted, hosted, ended}
-use Rattle.tape_host.specs.Hosting.{server_of, is_whole_side, IsHosting}
-use Rattle.tape_host.proofs.Sides.{length_with, with_none}
+use Rattle.std.proofs.Common.{sym, ap, subst, ◌∙◌, arith}
+use Rattle.tape_host.proofs.Names.{Hosted, hosted, ended, server_of, is_whole_side, IsHosting}
+use Rattle.tape_host.proofs.Sides.{with_none}
 use Rattle.tape_host.proofs.Ended.{ended_none, ended_hosting, ended_server}
 use Rattle.tape_host.proofs.host.Host.end.Goals as goal
 
@@ -10,30 +9,14 @@ invariant_of-self c = (
   subst (λ xs. IsHosting c.end.new.drives xs c.self.inside.next) (sym c.take_side.ensures.left)
       (ended_hosting c.one_holder.ensures.others c.one_session_view.ensures.told c.untroubled_end.ensures c.self.invariant.0 c.args.connection c.in-Some.side
       (sym c.take_side.ensures.taken ∙ c.in-Some.is) c.end.new.drives c.end.new.self c.end.ensures),
-  λ whole. omega (
-    arith,
-    c.take_side.new.sides.ok.0,
-    ap length c.take_side.ensures.left,
-    length_with c.self.inside.sides.items c.args.connection None,
-    c.self.inside.sides.ok.0,
-    c.take_side.ensures.room,
-    c.self.invariant.1 whole,
-  ),
+  λ whole. omega (arith, c.take_side.ensures.len, c.take_side.ensures.room, c.self.invariant.1 whole),
 )
 
 pub invariant_of-self-in_default : goal.invariant_of-self-in_default
 invariant_of-self-in_default c = (
   subst (λ xs. IsHosting c.self.inside.drives xs c.self.inside.next)
       (sym (c.take_side.ensures.left ∙ with_none c.self.inside.sides.items c.args.connection (sym c.take_side.ensures.taken ∙ c.in_default.is))) c.self.invariant.0,
-  λ whole. omega (
-    arith,
-    c.take_side.new.sides.ok.0,
-    ap length c.take_side.ensures.left,
-    length_with c.self.inside.sides.items c.args.connection None,
-    c.self.inside.sides.ok.0,
-    c.take_side.ensures.room,
-    c.self.invariant.1 whole,
-  ),
+  λ whole. omega (arith, c.take_side.ensures.len, c.take_side.ensures.room, c.self.invariant.1 whole),
 )
 
 pub returns-in-Some : goal.returns-in-Some

@@ -1,6 +1,5 @@
 use Rattle.std.proofs.Common.{sym, subst}
-use Rattle.tape_host.specs.declared.side.Next.TheVariants.{Nothing}
-use Rattle.tape_host.specs.Hosting.{IsHosting}
+use Rattle.tape_host.proofs.Names.{Nothing, IsHosting}
 use Rattle.tape_host.proofs.Hosted.{first_hosting}
 use Rattle.tape_host.proofs.host.Host.new.Goals as goal
 

@@ -1,7 +1,5 @@
-use Rattle.std.proofs.Common.{Some, None, ◌++◌, take, length, sym, ap, subst, ◌∙◌, arith}
-use Rattle.tape_host.specs.Servers.{Hosted, hosted, side_at, with_side_at, IsPiecePushed}
-use Rattle.tape_host.specs.Hosting.{server_of, is_whole_side, IsHosting}
-use Rattle.tape_host.proofs.Sides.{length_with}
+use Rattle.std.proofs.Common.{Some, None, ◌++◌, take, sym, ap, subst, ◌∙◌, arith}
+use Rattle.tape_host.proofs.Names.{Hosted, hosted, side_at, with_side_at, IsPiecePushed, server_of, is_whole_side, IsHosting}
 use Rattle.tape_host.proofs.Pushed.{with_reader, put_back, pushed_hosting, pushed_seen}
 use Rattle.tape_host.proofs.host.Host.push.Goals as goal
 
@@ -16,18 +14,7 @@ invariant_of-self-2 c =
           (sym (c.put_side.ensures.put ∙ ap (λ xs. with_side_at xs k (Some read)) c.take_side.ensures.left ∙ put_back sides k None (Some read)))
           (pushed_hosting c.self.invariant.0 k c.in-Some.side is c.push-count.new.self
           (readable.0 ++ take c.push-count.result c.args.bytes.now, c.push-count.ensures.unread readable.0 readable.1)),
-      λ whole. omega (
-        arith,
-        c.put_side.new.sides.ok.0,
-        ap length c.put_side.ensures.put,
-        length_with c.take_side.new.sides.items k (Some read),
-        ap length c.take_side.ensures.left,
-        length_with sides k None,
-        c.self.inside.sides.ok.0,
-        c.put_side.ensures.room,
-        c.take_side.ensures.room,
-        c.self.invariant.1 whole,
-      ),
+      λ whole. omega (arith, c.put_side.ensures.len, c.take_side.ensures.len, c.put_side.ensures.room, c.take_side.ensures.room, c.self.invariant.1 whole),
     )
 
 pub returns : goal.returns

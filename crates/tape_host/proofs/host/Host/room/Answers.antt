@@ -1,6 +1,5 @@
 use Rattle.std.proofs.Common.{option_map, Some, refl, sym, ap, subst, ◌∙◌}
-use Rattle.tape_host.specs.Servers.{Hosted, side_at, HasRoom}
-use Rattle.tape_host.specs.Hosting.{seen_side}
+use Rattle.tape_host.proofs.Names.{Hosted, side_at, HasRoom, seen_side}
 use Rattle.tape_host.proofs.Sides.{side_map}
 use Rattle.tape_host.proofs.host.Host.room.Goals as goal
 

@@ -1,7 +1,5 @@
 use Rattle.std.proofs.Common.{option_map, sym, ap, ◌∙◌}
-use Rattle.rmt_server.specs.ServerState.{ServerConnection}
-use Rattle.tape_host.specs.Servers.{Hosted, side_at}
-use Rattle.tape_host.specs.Hosting.{seen_side}
+use Rattle.tape_host.proofs.Names.{ServerConnection, Hosted, side_at, seen_side}
 use Rattle.tape_host.proofs.Sides.{side_map}
 use Rattle.tape_host.proofs.host.Host.session.Goals as goal
 

@@ -1,9 +1,5 @@
-use Rattle.std.proofs.Common.{Some, None, length, sym, ap, subst, ◌∙◌, arith}
-use Rattle.tape_host.specs.declared.side.ServerConnection.{ServerConnection as RealServerConnection}
-use Rattle.tape_host.specs.Servers.{Hosted, hosted, side_at, with_side_at}
-use Rattle.tape_host.specs.Turns.{TurnsAt, with_back}
-use Rattle.tape_host.specs.Hosting.{server_of, is_whole_side, IsHosting}
-use Rattle.tape_host.proofs.Sides.{length_with}
+use Rattle.std.proofs.Common.{Some, None, sym, ap, subst, ◌∙◌, arith}
+use Rattle.tape_host.proofs.Names.{RealServerConnection, Hosted, hosted, side_at, with_side_at, TurnsAt, with_back, server_of, is_whole_side, IsHosting}
 use Rattle.tape_host.proofs.Pushed.{put_back}
 use Rattle.tape_host.proofs.Turned.{turned_hosting, turned_seen}
 use Rattle.tape_host.proofs.host.Host.turn.Goals as goal
@@ -18,18 +14,7 @@ invariant_of-self-2 c =
           (sym (c.put_side.ensures.put ∙ ap (λ xs. with_side_at xs k (Some after)) c.take_side.ensures.left ∙ put_back sides k None (Some after)))
           (turned_hosting c.one_holder.ensures.others c.take_turn-turn.new.drives c.self.invariant.0 k c.in-Some.side after is c.args.trouble c.args.lost
           c.args.back.now.items c.take_turn-turn.new.back.items c.take_turn-turn.result c.take_turn-turn.ensures),
-      λ whole. omega (
-        arith,
-        c.put_side.new.sides.ok.0,
-        ap length c.put_side.ensures.put,
-        length_with c.take_side.new.sides.items k (Some after),
-        ap length c.take_side.ensures.left,
-        length_with sides k None,
-        c.self.inside.sides.ok.0,
-        c.put_side.ensures.room,
-        c.take_side.ensures.room,
-        c.self.invariant.1 whole,
-      ),
+      λ whole. omega (arith, c.put_side.ensures.len, c.take_side.ensures.len, c.put_side.ensures.room, c.take_side.ensures.room, c.self.invariant.1 whole),
     )
 
 pub returns : goal.returns

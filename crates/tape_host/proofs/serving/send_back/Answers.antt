@@ -1,5 +1,0 @@
-use Rattle.std.proofs.Common.{rules}
-use Rattle.tape_host.proofs.serving.send_back.Goals as goal
-
-pub returns : goal.returns
-returns c = search rules
