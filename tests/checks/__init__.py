@@ -1,0 +1,1 @@
+"""The checks of the built programs from outside. `python3 -m tests` runs them."""

@@ -1,0 +1,787 @@
+"""Checks the scripts of etc/ that dump with nobody there, with the built programs.
+
+`unattended` runs stand-ins for a dump, which print and wait as it does, and dumps to servers of this file. `new-reels` runs in folders.
+
+The recipe *A night* of docs/OPERATING.md runs as it stands there, on a machine of its own, and then the lines of its two crontabs, at the
+times that they name. No cron runs: this file reads them, and moves the clock, which is a `date` that comes first in PATH. What a line prints
+is its mail. The forced command runs on such a machine too, with a syslog of this file. That takes root and unshare(1); where they are not to
+be had, it is named as skipped.
+"""
+
+from __future__ import annotations
+
+import fcntl
+import os
+import random
+import re
+import shutil
+import signal
+import socket
+import subprocess
+import tempfile
+import time
+from contextlib import suppress
+from pathlib import Path
+from typing import Callable, NamedTuple
+
+from tests.lib import machines
+from tests.lib.case import Case, random_seed
+from tests.lib.connections import wait_for
+from tests.lib.dumping import PAYLOAD
+from tests.lib.ended import ABNORMAL, DONE, Ended
+from tests.lib.given import given
+from tests.lib.inside import is_inside, run_inside
+from tests.lib.places import built
+from tests.lib.played_servers import Said
+from tests.lib.processes import state
+from tests.lib.recipes import all_recipes, script_of, with_those_before
+from tests.lib.unattended import NEW_REELS, UNATTENDED, Job, jobs_of, moved_clock, set_clock
+from tests.lib.waiting import GUARD_SECONDS, soon
+from tests.lib.wire import DEVICE
+
+SIGNALS = 60
+DATE_OF_A_LABEL = 951782400
+
+# Stand-ins for a dump.
+WORDS = "#!/bin/sh\nprintf '%s\\n' \"$@\"\n"
+# What a dump prints on both streams, and the last line of standard error without its end.
+BOTH = r"""#!/bin/sh
+echo 'going on: 2 volumes, 6 blocks of 8 counted' >&2
+echo 'volume 3: 2 blocks from 6'
+printf 'a \\ b  \t%%s\n\n' >&2
+echo 'dump complete: 3 volumes, 8 blocks'
+printf 'no end' >&2
+"""
+# It asks until it is answered with anything but `yes`, with a line on standard error before; the number of its answers is its status.
+ASKS = r"""#!/bin/sh
+answers=0
+while :; do
+    test -z "$SAID" || printf '%s\n' "$SAID" >&2
+    test -z "$FAILED" || printf '%s\n' "$FAILED"
+    echo 'retry?'
+    read -r answer && test "$answer" = yes || break
+    answers=$((answers + 1))
+done
+exit $answers
+"""
+# Two pipes: a writer that has not closed the first yet is none of the second.
+WAITS = "#!/bin/sh\necho out\nread -r answer < first\necho told >&2\nread -r answer < second\n"
+
+
+def run(folder: Path, *words: str, **variables: str) -> Ended[str]:
+    """Runs a program in a folder, with variables more."""
+    ran = subprocess.run(
+        words, cwd=folder, env={**os.environ, **variables}, stdin=subprocess.DEVNULL, capture_output=True, timeout=GUARD_SECONDS, check=False
+    )
+    return Ended(ran.stdout.decode(), ran.stderr.decode(), ran.returncode)
+
+
+def is_zombie(process: int) -> bool:
+    try:
+        return state(process) == "Z"
+    except OSError:
+        return True
+
+
+class ScriptCase(Case):
+    """Tests of a script, in a folder that is empty at the start of each test."""
+
+    def setUp(self) -> None:
+        self.folder = Path(self.enterContext(tempfile.TemporaryDirectory()))
+
+    def stand_in(self, text: str) -> str:
+        """Makes a program of this text, and answers its path."""
+        path = self.folder / "rdump"
+        path.write_text(text)
+        path.chmod(0o755)
+        return str(path)
+
+
+# What no wait mends: the line on standard output, that on standard error, and whether it is such a one.
+LOOK = "rdump: 127.0.0.1:4711: the look failed: open: Refused {}: text (os error {})"
+PROTECTED = "rdump: 127.0.0.1:4711: protected: the first reel of /dev/st0 {}; lay another reel first, then answer yes"
+REASONS = (
+    ("volume 1 failed: Refused 2", "", True),
+    ("volume 12 failed: Refused 22", "", True),
+    ("volume 1 failed: Botched", "", True),
+    ("volume 1 failed: SourceFault", "", True),
+    ("volume 1 failed: ReelTooSmall", "", True),
+    ("", LOOK.format(2, 2), True),
+    ("", LOOK.format(22, 22), True),
+    ("", "rdump: 127.0.0.1:4711: the look failed: no reply by the protocol", True),
+    ("", PROTECTED.format("has a volume of another dump: /usr level 0 date 951782400, volume 1"), True),
+    ("", PROTECTED.format("begins with a record that is no label"), True),
+    ("", PROTECTED.format("begins with a mark"), True),
+    ("volume 1 failed: Refused 5", "", False),
+    ("volume 1 failed: Refused 6", "", False),
+    ("volume 1 failed: Refused 16", "", False),
+    ("volume 1 failed: Refused 28", "", False),
+    ("volume 1 failed: ConnectionEnded", "rdump: 127.0.0.1:4711: Connection refused (os error 111)", False),
+    ("", LOOK.format(6, 6), False),
+    ("", LOOK.format(16, 16), False),
+    ("", "rdump: 127.0.0.1:4711: the look failed: Connection refused (os error 111)", False),
+    ("", "this reel has: /home level 0 Fri Nov 20 00:00:00 2026, volume 1", False),
+)
+
+
+class Unattended(ScriptCase):
+    """The script that answers, with stand-ins for a dump."""
+
+    def test_numbers(self) -> None:
+        """Which numbers are some. A 0 before other digits changes nothing."""
+        asks = self.stand_in(ASKS)
+        for value, answers in (("3", 3), ("03", 3), ("000", 0), ("08", 8)):
+            got = run(self.folder, UNATTENDED, asks, PAUSE="00", TIMES=value)
+            self.same(f"TIMES={value}", got, Ended("retry?\n" * (answers + 1), "", answers))
+        self.same("PAUSE=08 is a number", run(self.folder, UNATTENDED, asks, PAUSE="08", TIMES="0"), Ended("retry?\n", "", DONE))
+        for value in ("x", "1x", "0x", "-1", "1.5", "0" * 30 + "x", "9" * 19):
+            for name in ("PAUSE", "TIMES", "TIMEOUT"):
+                got = run(self.folder, UNATTENDED, asks, **{name: value})
+                self.same(f"{name}={value}", got, Ended("", f"unattended: not a number: {value}\n", 1))
+
+    def test_pause(self) -> None:
+        asks = self.stand_in(ASKS)
+        began = time.monotonic()
+        got = run(self.folder, UNATTENDED, asks, PAUSE="02", TIMES="01")
+        self.same("PAUSE=02 is two seconds", (got.status, time.monotonic() - began >= 2), (1, True), got)
+
+    def test_streams(self) -> None:
+        """What is printed is passed on, each stream to its own."""
+        got = run(self.folder, UNATTENDED, self.stand_in(BOTH))
+        told = "going on: 2 volumes, 6 blocks of 8 counted\na \\ b  \t%s\n\nno end"
+        self.same("both streams", got, Ended("volume 3: 2 blocks from 6\ndump complete: 3 volumes, 8 blocks\n", told, DONE))
+
+    def test_order_of_both_streams(self) -> None:
+        """What stood on standard error before a line comes before it."""
+        asks = self.stand_in(ASKS)
+        reason, failed = "rdump: 127.0.0.1:1: Connection refused (os error 111)", "volume 1 failed: ConnectionEnded"
+        variables = {**os.environ, "SAID": reason, "FAILED": failed, "PAUSE": "0", "TIMES": "3"}
+        for _ in range(20):
+            ran = subprocess.run(
+                (UNATTENDED, asks),
+                env=variables,
+                stdin=subprocess.DEVNULL,
+                stdout=subprocess.PIPE,
+                stderr=subprocess.STDOUT,
+                timeout=GUARD_SECONDS,
+                check=False,
+            )
+            self.same("the order of both streams", ran.stdout.decode(), f"{reason}\n{failed}\nretry?\n" * 4, ran.returncode)
+
+    def test_lines_are_shown_at_once(self) -> None:
+        """A line of either stream is passed on while the dump goes on."""
+        waits = self.stand_in(WAITS)
+        for it in ("first", "second"):
+            os.mkfifo(self.folder / it)
+        with subprocess.Popen(
+            (UNATTENDED, waits), cwd=self.folder, stdin=subprocess.DEVNULL, stdout=subprocess.PIPE, stderr=subprocess.PIPE
+        ) as process:
+            self.same("a line of standard output", given(process.stdout).readline(), b"out\n")
+            (self.folder / "first").write_text("\n")
+            self.same("a line of standard error", given(process.stderr).readline(), b"told\n")
+            (self.folder / "second").write_text("\n")
+            self.same("its end", process.wait(GUARD_SECONDS), DONE)
+
+    def test_words_of_a_dump(self) -> None:
+        """A dump gets --protect and --timeout once, and nothing else does."""
+        program = self.stand_in(WORDS)
+        hour = ["--timeout", "3600"]
+        rows: tuple[tuple[tuple[str, ...], list[str], dict[str, str]], ...] = (
+            (("dump", "--to", "a b"), ["--protect", *hour], {}),
+            (("dump", "--protect", "--to", "x"), hour, {}),
+            (("dump", "--timeout", "5", "--to", "x"), ["--protect"], {"TIMEOUT": "7"}),
+            (("dump", "--timeout=0", "--to", "x"), ["--protect"], {}),
+            (("dump", "--to", "x"), ["--protect", "--timeout", "7"], {"TIMEOUT": "007"}),
+            (("dump", "--to", "x"), ["--protect"], {"TIMEOUT": "0"}),
+            (("dump", "--to", "x"), ["--protect", *hour], {"TIMEOUT": ""}),
+            (("read", "--to", "x"), [], {}),
+            (("--version",), [], {"TIMEOUT": "7"}),
+        )
+        for words, more, seconds in rows:
+            got = run(self.folder, UNATTENDED, program, *words, **seconds)
+            self.same(f"the words of {words} {seconds}", got, Ended("".join(f"{it}\n" for it in (*words, *more)), "", DONE))
+        got = run(self.folder, UNATTENDED, "nice", program, "dump")
+        self.same("a dump that another program starts", got.output, "dump\n--protect\n--timeout\n3600\n", got)
+
+    def test_what_no_wait_mends(self) -> None:
+        """It gets no answer. With --checkpoint the dump is ended by a signal, and the status is 3."""
+        asks = self.stand_in(ASKS)
+        for failed, said, is_hopeless in REASONS:
+            lines = f"{failed}\nretry?\n" if failed else "retry?\n"
+            told = f"{said}\n" if said else ""
+            times = 1 if is_hopeless else 3
+            got = run(self.folder, UNATTENDED, asks, "dump", SAID=said, FAILED=failed, PAUSE="0", TIMES="2")
+            self.same(f"{failed or said}: its answers", got, Ended(lines * times, told * times, times - 1))
+            for word in (("--checkpoint", "kept"), ("--checkpoint=kept",)):
+                got = run(self.folder, UNATTENDED, asks, "dump", *word, SAID=said, FAILED=failed, PAUSE="0", TIMES="2")
+                gave_up = got.told.removeprefix(told * times).startswith("unattended: it gave up, and the file of --checkpoint stays")
+                self.same(f"{failed or said}, {word}", (got.output, got.status, gave_up), (lines * times, ABNORMAL, True), got)
+
+    def test_signals(self) -> None:
+        """A signal at any time ends the script and its dump, and nothing stays."""
+        asks, seed = self.stand_in(ASKS), random_seed(7)
+        generator = random.Random(seed)
+        temporary = self.folder / "temporary"
+        temporary.mkdir()
+        variables = {**os.environ, "PAUSE": "1000", "SAID": "why", "TMPDIR": str(temporary)}
+        for number in range(SIGNALS):
+            sent = generator.choice((signal.SIGHUP, signal.SIGINT, signal.SIGTERM))
+            with subprocess.Popen(
+                (UNATTENDED, asks, "dump"),
+                cwd=self.folder,
+                env=variables,
+                stdin=subprocess.DEVNULL,
+                stdout=subprocess.DEVNULL,
+                stderr=subprocess.DEVNULL,
+                start_new_session=True,
+                preexec_fn=heeds_signals,
+            ) as process:
+                time.sleep(generator.random() * 0.1)
+                process.send_signal(sent)
+                status = process.wait(GUARD_SECONDS)
+            # A signal before the first trap ends the shell itself.
+            self.holds(f"signal {number}, {sent}: its status", status != DONE, status, seed)
+            left = [it for it in group(process.pid) if not is_over(it)]
+            self.same(f"signal {number}, {sent}: no process is left", left, [], seed)
+
+
+def heeds_signals() -> None:
+    """A shell can set no trap for a signal that was ignored when it began, as SIGINT is for what runs in the background."""
+    for it in (signal.SIGHUP, signal.SIGINT, signal.SIGTERM):
+        signal.signal(it, signal.SIG_DFL)
+
+
+def group(leader: int) -> list[int]:
+    """The processes of a session."""
+    found = []
+    for it in Path("/proc").glob("[0-9]*/stat"):
+        try:
+            fields = it.read_text().rpartition(")")[2].split()
+        except OSError:
+            continue
+        if int(fields[3]) == leader and fields[0] != "Z":
+            found.append(int(it.parent.name))
+    return found
+
+
+def is_over(process: int) -> bool:
+    """Whether a process ends, which may take a while."""
+    return soon(lambda: not Path(f"/proc/{process}").exists() or is_zombie(process))
+
+
+class UnattendedDumps(ScriptCase):
+    """The script that answers, with dumps to servers of this file."""
+
+    def setUp(self) -> None:
+        super().setUp()
+        self.folder.joinpath("payload").write_bytes(PAYLOAD)
+        # Whether the client knows --protect by itself.
+        self.has_protect = "--protect" in run(self.folder, built("rdump"), "dump", "--help").output
+
+    def dump(self, address: str, *more: str, **variables: str) -> Ended[str]:
+        words = ("--to", address, "--device", DEVICE, "--fs", "/usr", "--level", "0", "--payload", "payload", "--block", "1024")
+        return run(self.folder, UNATTENDED, built("rdump"), "dump", *words, "--dumpdates", "dumpdates", *more, **variables)
+
+    def test_what_no_wait_mends(self) -> None:
+        """Each to a server that answers so: one attempt, and what becomes of the checkpoint."""
+        opened = (b"A0\n", b"A1\n", b"A0\n", b"A1\n")
+        # With --protect there is a look of its own before each attempt: an open, a rewind, a read, a rewind, spacing and a close.
+        look = (b"A0\n", b"A1\n", b"A0\n", b"A1\n", b"E5\nempty\n", b"A0\n") if self.has_protect else ()
+        # The look at a drive that is not there holds the attempt back, and no line of a volume is printed then.
+        for title, replies, line in (
+            ("no such drive", (b"E2\nno\n",), "" if look else "volume 1 failed: Refused 2\n"),
+            ("an older server", (*look, *opened, b"A1024\n", b"E22\nno\n"), "volume 1 failed: Refused 22\n"),
+            ("no server of this protocol", (*look, b"X\n"), "volume 1 failed: Botched\n"),
+            ("a reel that is too small", (*look, *opened, b"A0\n"), "volume 1 failed: ReelTooSmall\n"),
+        ):
+            for more in ((), ("--checkpoint", "kept")):
+                self.fails_at_once(f"{title} {more}", replies, line, *more)
+
+    def fails_at_once(self, title: str, replies: tuple[bytes, ...], line: str, *more: str) -> None:
+        """A dump to a server that gives these replies makes one attempt."""
+        with Said(*replies) as server:
+            got = self.dump(server.address, *more, PAUSE="1000")
+        end = "" if more else "dump abandoned\n"
+        self.same(title, (got.output, got.status), (f"{line}retry?\n{end}", ABNORMAL), got)
+        kept = self.folder / "kept"
+        if line:
+            self.same(f"{title}: the checkpoint", kept.exists(), bool(more))
+        kept.unlink(missing_ok=True)
+
+    def test_a_silent_server(self) -> None:
+        """It costs an attempt, and the next one is made. The system accepts the connections."""
+        with socket.create_server(("127.0.0.1", 0)) as listener:
+            address = "127.0.0.1:%d" % listener.getsockname()[1]
+            got = self.dump(address, PAUSE="0", TIMES="1", TIMEOUT="1")
+        failed, why = ("", "the look failed: timed out") if self.has_protect else ("volume 1 failed: ConnectionEnded\n", "timed out")
+        wanted = Ended(f"{failed}retry?\n" * 2 + "dump abandoned\n", f"rdump: {address}: {why}\n" * 2, ABNORMAL)
+        self.same("a silent server", got, wanted)
+
+
+class NewReels(ScriptCase):
+    """The script that makes reels: which are made, and that nothing that is there changes."""
+
+    def setUp(self) -> None:
+        super().setUp()
+        moved_clock(self.folder / "clock", self.folder / "now", "2026-11-27 23:59")
+        for it in ("stack", "bin", "shelf/2026-11-20", "other"):
+            self.folder.joinpath(it).mkdir(parents=True)
+
+    def make(self, *words: str) -> Ended[str]:
+        return run(self.folder, NEW_REELS, *words, PATH=f"{self.folder / 'clock'}:{os.environ['PATH']}")
+
+    def names(self) -> list[str]:
+        """What is in the stack."""
+        return sorted(it.name for it in self.folder.joinpath("stack").iterdir())
+
+    def test_reels(self) -> None:
+        self.same("three reels", self.make("stack", "bin", "3"), Ended("", "", DONE), self.names())
+        self.same("their names", self.names(), ["2026-11-27-1", "2026-11-27-2", "2026-11-27-3"])
+        made = [(it.stat().st_size, it.stat().st_mode & 0o777) for it in self.folder.joinpath("stack").iterdir()]
+        self.same("they are empty, and this user's alone", made, [(0, 0o600)] * 3)
+
+    def test_names_that_are_taken(self) -> None:
+        self.make("stack", "bin", "3")
+        self.folder.joinpath("stack/2026-11-27-1").write_bytes(b"a volume")
+        self.folder.joinpath("stack/2026-11-27-2").rename(self.folder / "bin/2026-11-27-2")
+        self.folder.joinpath("stack/2026-11-27-3").rename(self.folder / "shelf/2026-11-20/2026-11-27-3")
+        self.folder.joinpath("other/2026-11-27-4").touch()
+        link = self.folder / "stack/2026-11-27-5"
+        link.symlink_to("nowhere")
+        os.mkfifo(self.folder / "stack/2026-11-27-6")
+        self.folder.joinpath("stack/2026-11-27-7").mkdir()
+        self.same("two reels more", self.make("stack", "bin", "2", "shelf", "other"), Ended("", "", DONE), self.names())
+        wanted = ["2026-11-27-1", *(f"2026-11-27-{it}" for it in (5, 6, 7, 8, 9))]
+        self.same("no name that is taken", self.names(), wanted)
+        self.same("what was there is as it was", self.folder.joinpath("stack/2026-11-27-1").read_bytes(), b"a volume")
+        nowhere = self.folder / "stack/nowhere"
+        self.same("a link stays one, and what it names is not made", (link.is_symlink(), nowhere.exists()), (True, False))
+        self.same("no reel", (self.make("stack", "bin", "0"), self.names()), (Ended("", "", DONE), wanted))
+        self.make("stack", "bin", "10")
+        last = {"2026-11-27-10", "2026-11-27-01"}
+        self.same("ten reels are in the order of their numbers", last & set(self.names()), last, self.names())
+
+    def test_bad_words(self) -> None:
+        self.make("stack", "bin", "3")
+        before = self.names()
+        for words in (
+            ("stack", "bin"),
+            ("stack", "bin", "x"),
+            ("stack", "bin", "1000"),
+            ("none", "bin", "1"),
+            ("stack", "none", "1"),
+            ("stack", "bin", "1", "none"),
+        ):
+            got = self.make(*words)
+            self.same(f"{words}: it fails", (got.status, got.told.startswith("new-reels: "), self.names()), (1, True, before), got)
+
+    def test_the_stack_of_another_user(self) -> None:
+        if os.geteuid() != 0:
+            self.skipTest("root cannot be used on this machine")
+        os.chown(self.folder / "stack", 65534, 65534)
+        got = self.make("stack", "bin", "1")
+        self.same("the stack of another user", (got.status, "another user's" in got.told), (1, True), got)
+
+
+# The nights. All below runs on a machine of its own.
+
+NOW = Path("/mnt/now")
+STACK, BIN, SHELF, CLIENT = Path("/srv/tape/st0"), Path("/srv/tape/bin"), Path("/srv/tape/shelf"), Path("/var/lib/night")
+TABLES = (Path("/etc/cron.d/rmtd"), Path("/etc/cron.d/night"))
+# Where the server listens, and where the client's tunnel to it begins.
+LISTENER, TUNNEL = "/run/rmtd/socket", "/run/rdump/socket"
+
+
+def started(job: Job, **more: str) -> subprocess.Popen[bytes]:
+    """Starts a job as cron does."""
+    home = {"root": machines.HOME, "rmtd": "/srv/tape"}[job.user]
+    is_root = job.user == "root"
+    assert "%" not in job.command
+    return subprocess.Popen(
+        (job.variables["SHELL"], "-c", job.command),
+        env={**job.variables, "HOME": home, "LOGNAME": job.user, "LANG": "C.UTF-8", **more},
+        cwd=home,
+        stdin=subprocess.DEVNULL,
+        stdout=subprocess.PIPE,
+        stderr=subprocess.STDOUT,
+        user=job.user,
+        group=None if is_root else job.user,
+        extra_groups=None if is_root else (),
+    )
+
+
+class Mail(NamedTuple):
+    """What a line of a crontab printed, and its status."""
+
+    text: str
+    status: int
+
+
+class Crontabs:
+    """The recipe's two crontabs. What they start with the machine runs until they are left."""
+
+    def __init__(self) -> None:
+        self.jobs = [it for table in TABLES for it in jobs_of(table)]
+        self.background = [started(it, PATH=it.variables["PATH"]) for it in self.jobs if it.when == ("@reboot",)]
+
+    def run(self, when: str, during: Callable[[subprocess.Popen[bytes]], bytes] | None = None, **more: str) -> Mail:
+        """Runs what is due at a minute, and answers its mail. While it runs another thing can be done."""
+        seconds = set_clock(NOW, when)
+        due = [it for it in self.jobs if it.is_due(time.gmtime(seconds))]
+        assert len(due) == 1, (when, due)
+        process = started(due[0], **more)
+        seen = during(process) if during else b""
+        rest, _ = process.communicate(timeout=GUARD_SECONDS * 3)
+        return Mail((seen + rest).decode(), process.returncode)
+
+    def stop(self) -> None:
+        for it in self.background:
+            it.kill()
+            it.wait()
+            given(it.stdout).close()
+
+
+def rdump(*words: str) -> Ended[str]:
+    return run(Path("/"), "/usr/local/sbin/rdump", *words)
+
+
+def listener(capacity: int) -> None:
+    """Starts the server as the recipe of a listener does, with another capacity. It ends with the machine."""
+    words = ("runuser", "-u", "rmtd", "--", "/usr/local/sbin/rmtd", "--listen", f"unix:{LISTENER}", "--capacity", str(capacity))
+    drives = ("--bin", str(BIN), "/dev/st0=/srv/tape/st0", "/dev/st1=/srv/tape/st1")
+    with open("/run/rmtd.log", "ab") as log:
+        process = subprocess.Popen((*words, *drives), stdout=subprocess.PIPE, stderr=log, umask=0o007)
+    given(process.stdout).readline()
+
+
+def comes_back(process: subprocess.Popen[bytes]) -> bytes:
+    """The server comes back at the first question of a job. Answers what the job printed up to that."""
+    lines = []
+    for line in given(process.stdout):
+        lines.append(line)
+        if line == b"retry?\n":
+            break
+    listener(1000000000)
+    return b"".join(lines)
+
+
+def stop(program: str) -> None:
+    """Ends each process of this machine that runs a program, and waits for their ends. The machine has its own processes alone."""
+    while found := [it for it in map(int, filter(str.isdigit, os.listdir("/proc"))) if runs(it, program)]:
+        for it in found:
+            with suppress(ProcessLookupError):
+                os.kill(it, signal.SIGKILL)
+        time.sleep(0.01)
+
+
+def runs(process: int, program: str) -> bool:
+    """Whether a process runs a program, and has not ended."""
+    try:
+        return Path(f"/proc/{process}/comm").read_text() == f"{program}\n" and not is_zombie(process)
+    except OSError:
+        return False
+
+
+def empty(*folders: Path) -> None:
+    """Takes away what lies in folders."""
+    for it in (it for folder in folders for it in folder.iterdir()):
+        it.unlink()
+
+
+def stack() -> list[str]:
+    return sorted(it.name for it in STACK.iterdir())
+
+
+def shelf() -> dict[str, list[str]]:
+    return {it.name: sorted(reel.name for reel in it.iterdir()) for it in sorted(SHELF.iterdir())}
+
+
+def dumpdates() -> str:
+    return (CLIENT / "dumpdates").read_text()
+
+
+def connection(sent: bytes) -> tuple[int, bytes]:
+    """The status and the answers of the script, whose three streams are one connection, as inetd gives them."""
+    ours, its = socket.socketpair()
+    with ours, subprocess.Popen(
+        ("/usr/local/sbin/tapes",),
+        env={"PATH": machines.SYSTEM_PATH},
+        stdin=its.fileno(),
+        stdout=its.fileno(),
+        stderr=its.fileno(),
+        user="rmtd",
+        group="rmtd",
+        extra_groups=(),
+        cwd="/",
+    ) as process:
+        its.close()
+        ours.sendall(sent)
+        ours.shutdown(socket.SHUT_WR)
+        answers = b"".join(iter(lambda: ours.recv(4096), b""))
+        return process.wait(GUARD_SECONDS), answers
+
+
+def ssh(*words: str) -> Ended[str]:
+    return run(Path("/"), "ssh", "-o", "ExitOnForwardFailure=yes", "-o", "BatchMode=yes", *words, HOME=machines.HOME)
+
+
+class Nights(Case):
+    """What follows the recipe *A night*, each part on a machine of its own."""
+
+    def setUp(self) -> None:
+        missing = [it for it in ("sshd", "ssh", "ssh-keygen", "tar", "flock", "logger") if not machines.is_there(it)]
+        if not is_inside() and (missing or not machines.has_machines()):
+            self.skipTest(f"{', '.join(missing) or 'root, unshare and make'} cannot be used on this machine")
+
+    def test_nights(self) -> None:
+        """Nights in a row and the months after them: a server that is down, a reel that is wanted, and what goes from the shelf."""
+        self.after_the_recipe(self.nights)
+
+    def test_keys(self) -> None:
+        """What the key of a client may do: a way to the listener, while it is up and while it is not, and nothing else."""
+        self.after_the_recipe(self.keys)
+
+    def test_syslog(self) -> None:
+        """The forced command's lines go to syslog, and to the file where there is none. The client gets none of them, and the status is the
+        server's."""
+        self.after_the_recipe(self.syslog)
+
+    def after_the_recipe(self, part: Callable[[], None]) -> None:
+        """Runs the recipe on a machine of its own, and then a part of this class."""
+        if not is_inside():
+            self.same("the nights", run_inside(self, machines.UNSHARE), DONE)
+            return
+        found = all_recipes()
+        machines.loopback()
+        machines.furnish()
+        machines.open_for_ssh()
+        moved_clock(Path("/usr/local/sbin"), NOW, "2026-11-28 12:00")
+        os.chdir(machines.HOME)
+        # What the recipe leaves running goes on.
+        with tempfile.TemporaryFile() as output:
+            ran = subprocess.run(
+                ("/bin/sh", "-c", script_of(with_those_before(found["A night"], found))),
+                stdin=subprocess.DEVNULL,
+                stdout=output,
+                stderr=subprocess.STDOUT,
+                env=machines.ENVIRONMENT,
+                check=False,
+            )
+            output.seek(0)
+            self.same("the recipe comes to its end", ran.returncode, DONE, output.read()[-600:])
+        self.keep_small_tree()
+        part()
+
+    def keep_small_tree(self) -> None:
+        """Lets the client's lines dump a small tree in the place of /usr. All else of them is as it stands: programs are still found in /usr."""
+        small = Path("/mnt/usr")
+        (small / "share").mkdir(parents=True)
+        (small / "share/file").write_text("a file\n")
+        os.utime(small / "share/file", (DATE_OF_A_LABEL, DATE_OF_A_LABEL))
+        text = TABLES[1].read_text()
+        assert text.count(" /usr /usr ") == 2
+        TABLES[1].write_text(text.replace(" /usr /usr ", " /usr /mnt/usr "))
+
+    def nights(self) -> None:
+        # The tunnel is the one that cron starts with the machine, and not that of the recipe before.
+        stop("ssh")
+        cron = Crontabs()
+        wait_for(TUNNEL)
+        empty(STACK, BIN)
+        tree = Path("/mnt/usr/share/night")
+        tree.mkdir()
+        self.sunday(cron)
+        self.monday(cron, tree)
+        self.tuesday(cron, tree)
+        self.wednesday(cron)
+        mail = cron.run("2026-12-03 09:00")
+        self.same("a morning without a dump: its mail", (mail.status, "no reel was found" in mail.text), (1, True), mail)
+        self.restored(tree)
+        self.months(cron)
+        cron.stop()
+
+    def sunday(self, cron: Crontabs) -> None:
+        """Sunday, 29 November 2026."""
+        reels = cron.run("2026-11-29 01:00")
+        self.same("new reels: no mail", (reels.text, stack()), ("", [f"2026-11-29-{it}" for it in (1, 2, 3)]))
+        mail = cron.run("2026-11-29 02:00")
+        complete = re.search(r"^dump complete: 1 volumes, \d+ blocks$", mail.text, re.M) is not None
+        self.same("night 1: its mail", (mail.status, complete), (DONE, True), mail)
+        left = [it for it in ("payload", "checkpoint") if (CLIENT / it).exists()]
+        self.same("night 1: no payload stays", left, [])
+        self.same("night 1: it is entered", dumpdates(), "/usr                             0 Sun Nov 29 02:00:00 2026\n")
+        self.same("night 1: the server has the entries", Path("/srv/tape/clients/usr").read_text(), dumpdates())
+        self.same("morning 1: no mail", cron.run("2026-11-29 09:00"), Mail("", DONE))
+        self.same("morning 1: the shelf", (shelf(), list(BIN.iterdir())), ({"2026-11-29": ["2026-11-29-1"]}, []))
+        self.same("morning 1: a reel may only be read", (SHELF / "2026-11-29/2026-11-29-1").stat().st_mode & 0o777, 0o400)
+
+    def monday(self, cron: Crontabs, tree: Path) -> None:
+        """The server is down at the start, and comes back."""
+        (tree / "monday").write_bytes(b"monday" * 1000)
+        os.utime(tree / "monday", (set_clock(NOW, "2026-11-29 12:00"),) * 2)
+        reels = cron.run("2026-11-30 01:00")
+        self.same("night 2: reels", (reels.text, "2026-11-30-3" in stack()), ("", True), stack())
+        stop("rmtd")
+        mail = cron.run("2026-11-30 02:00", comes_back, PAUSE="1", TIMES="100000")
+        self.holds("night 2: it was down", mail.text.count("retry?\n") >= 1, mail)
+        self.same("night 2: it came to its end", (mail.status, "dump complete: 1 volumes, " in mail.text), (DONE, True), mail)
+        entry = "/usr                             1 Mon Nov 30 02:00:00 2026\n"
+        self.holds("night 2: a second level", entry in dumpdates(), dumpdates())
+        mail = cron.run("2026-11-30 09:00")
+        self.same("morning 2", (mail, shelf().get("2026-11-30")), (Mail("", DONE), ["2026-11-29-2"]), shelf())
+
+    def tuesday(self, cron: Crontabs, tree: Path) -> None:
+        """Reels of a million bytes, and one too few of them."""
+        (tree / "tuesday").write_bytes(random.Random(3).randbytes(2500000))
+        os.utime(tree / "tuesday", (set_clock(NOW, "2026-11-30 12:00"),) * 2)
+        cron.run("2026-12-01 01:00")
+        for it in stack()[2:]:
+            (STACK / it).unlink()
+        stop("rmtd")
+        listener(1000000)
+        mail = cron.run("2026-12-01 02:00", PAUSE="0", TIMES="2")
+        self.same("night 3: a reel is wanted", (mail.status, mail.text.count("Refused 6: No such")), (ABNORMAL, 3), mail)
+        ends = mail.text.endswith("run the same command\n")
+        self.same("night 3: it gave up", (ends, "dump complete" in mail.text), (True, False), mail)
+        kept = (CLIENT / "checkpoint").read_text()
+        found = (kept.count("\ncounted "), "\nlevel 1\n" in kept, (CLIENT / "payload").exists())
+        self.same("night 3: two volumes are kept", found, (2, True, True), kept)
+        mail = cron.run("2026-12-01 09:00")
+        self.same("morning 3: two reels", (len(shelf()["2026-12-01"]), list(BIN.iterdir())), (2, []), mail, shelf())
+
+    def wednesday(self, cron: Crontabs) -> None:
+        """Tuesday's dump comes to its end first, with its own date."""
+        cron.run("2026-12-02 01:00")
+        stop("rmtd")
+        listener(1000000000)
+        mail = cron.run("2026-12-02 02:00", PAUSE="0", TIMES="2")
+        self.same("night 4: two dumps", (mail.status, mail.text.count("dump complete: ")), (DONE, 2), mail)
+        # The mail has both streams, and lines of the one keep their order among themselves alone.
+        lines = "".join(re.findall(r"(?m)^(?:volume|dump complete).*\n", mail.text))
+        found = ("going on: 2 volumes, " in mail.text, "dump complete: 3 volumes, 10 blocks\nvolume 1: " in lines)
+        self.same("night 4: the first goes on", found, (True, True), mail)
+        self.holds("night 4: the entries", dumpdates().endswith("1 Wed Dec  2 02:00:00 2026\n"), dumpdates())
+        self.same("morning 4", cron.run("2026-12-02 09:00"), Mail("", DONE), shelf())
+
+    def months(self, cron: Crontabs) -> None:
+        """What goes from the shelf. The first week's level 0 stays as long as a dump of level 1 builds on it."""
+        cron.run("2027-02-07 01:00")
+        mail = cron.run("2027-02-07 02:00")
+        self.same("week 2: level 0", mail.status, DONE, mail)
+        cron.run("2027-02-07 09:00")
+        self.same("what is older than 60 days goes, and not what is built on", [*shelf()], ["2026-11-29", "2026-12-02", "2027-02-07"])
+        cron.run("2027-02-08 01:00")
+        cron.run("2027-02-08 02:00")
+        mail = cron.run("2027-02-08 09:00")
+        self.same("the whole first week goes", [*shelf()], ["2027-02-07", "2027-02-08"], mail)
+        got = rdump("ls", *(str(SHELF / it) for it in shelf()), "--dumpdates", str(CLIENT / "dumpdates"))
+        self.same("each entry has its volumes", got.status, DONE, got)
+        # Entries that lack a volume: nothing goes.
+        for it in sorted(SHELF.rglob("2*-*-*-*")):
+            if it.parent.name == "2027-02-08":
+                it.unlink()
+        cron.run("2027-06-01 01:00")
+        mail = cron.run("2027-06-01 09:00")
+        found = ("nothing is removed" in mail.text, "2027-02-07" in shelf())
+        self.same("nothing goes where a volume is missing", found, (True, True), mail, shelf())
+
+    def restored(self, tree: Path) -> None:
+        """The tree that was dumped comes back from the reels of level 0 and those of the last level 1."""
+        wanted = {"monday": (tree / "monday").read_bytes(), "tuesday": (tree / "tuesday").read_bytes()}
+        got = rdump("ls", *(str(SHELF / it) for it in shelf()), "--dumpdates", str(CLIENT / "dumpdates"))
+        self.same("the shelf has each entry's volumes", got.status, DONE, got)
+        dates = dict(re.findall(r"^\S+ level (\d) date (\d+): volumes", got.output, re.M))
+        back = Path("/mnt/back")
+        back.mkdir()
+        for level in "01":
+            empty(Path("/srv/tape/st1"))
+            for it in re.findall(rf"^(\S+): /usr level {level} date {dates[level]} ", got.output, re.M):
+                shutil.copy(it, "/srv/tape/st1/")
+                shutil.chown(f"/srv/tape/st1/{Path(it).name}", "rmtd", "rmtd")
+            read = rdump("read", "--to", f"unix:{LISTENER}", "--device", "/dev/st1", "--out", f"/mnt/level.{level}", "--all", "--place")
+            self.same(f"level {level} is read", read.status, DONE, read)
+            subprocess.run(("tar", "-xf", f"/mnt/level.{level}", "-C", str(back)), check=True, stderr=subprocess.DEVNULL)
+            empty(BIN)
+        for name, data in wanted.items():
+            file = back / "share/night" / name
+            self.same(f"{name} is back", file.read_bytes() if file.exists() else None, data)
+
+    def keys(self) -> None:
+        port = ssh("-W", "127.0.0.1:22", "rmtd@tapehost")
+        self.same("-W to a port", (port.status, "prohibited" in port.told), (255, True), port)
+        self.forwards()
+        stop("rmtd")
+        os.unlink(LISTENER)
+        for title, way in (
+            ("the socket of the listener", f"{LISTENER}:127.0.0.1:22"),
+            ("a port", "127.0.0.1:4799:127.0.0.1:22"),
+            ("a path in a stack", "/srv/tape/st0/socket:127.0.0.1:22"),
+        ):
+            told, status = taken_back(way)
+            self.same(f"-R of {title}", (status, b"failed" in told), (255, True), told)
+        self.same("no socket in the stack", Path("/srv/tape/st0/socket").exists(), False)
+        self.same("no socket of the listener", Path(LISTENER).exists(), False)
+
+    def forwards(self) -> None:
+        """A way to the listener is had, and one to another socket is not."""
+        ways = {"/run/rdump/way": LISTENER, "/run/rdump/other": "/run/rmtd/other"}
+        forwards = [word for here, there in ways.items() for word in ("-L", f"{here}:{there}")]
+        with socket.socket(socket.AF_UNIX) as other:
+            other.bind("/run/rmtd/other")
+            os.chmod("/run/rmtd/other", 0o777)
+            other.listen()
+            tunnel = subprocess.Popen(("ssh", "-N", "-o", "ExitOnForwardFailure=yes", *forwards, "rmtd@tapehost"), stderr=subprocess.DEVNULL)
+            wait_for("/run/rdump/other")
+            answer, refused = (rdump("mt", "--to", f"unix:{it}", "--device", "/dev/st1", "nop", "1") for it in ways)
+            tunnel.kill()
+            tunnel.wait()
+        self.holds("-L to the listener", answer.output.startswith(("A1", "E6")), answer)
+        self.same("-L to another socket", (refused.status, refused.output), (ABNORMAL, ""), refused)
+
+    def syslog(self) -> None:
+        own_devices()
+        log, reel = Path("/srv/tape/log"), Path("/srv/tape/st0/locked")
+        empty(STACK)
+        reel.touch()
+        shutil.chown(reel, "rmtd", "rmtd")
+        refused = b"E5\nInput/output error\n"
+        with reel.open() as held:
+            fcntl.flock(held, fcntl.LOCK_EX)
+            self.same("without syslog: the client", connection(b"O/dev/st0\n0\n"), (0, refused))
+            self.holds("without syslog: the file", "rmtd: /dev/st0: open refused: " in log.read_text(), log.read_text())
+            log.write_text("")
+            heard: list[bytes] = []
+            with socket.socket(socket.AF_UNIX, socket.SOCK_DGRAM) as server:
+                server.bind("/dev/log")
+                os.chmod("/dev/log", 0o666)
+                server.settimeout(GUARD_SECONDS)
+                for sent, status in ((b"O/dev/st0\n0\n", 0), (b"O/dev/st0\n0\nO/dev", 2), (b"O/dev/st0\n0\nGET /\r\n", 3)):
+                    self.same(f"with syslog: the client, {sent!r}", connection(sent), (status, refused))
+                    with suppress(TimeoutError):
+                        heard.append(server.recv(4096))
+        form = re.compile(rb"<28>.* tapes\[\d+\]: (\S+Z )?rmtd: /dev/st0: open refused: /srv/tape/st0/locked: lock: another has the lock")
+        self.same("with syslog: its lines", [bool(form.match(it)) for it in heard], [True] * 3, heard)
+        left = (log.read_text(), list(Path("/tmp").iterdir()))
+        self.same("with syslog: nothing in the file, and no folder stays", left, ("", []))
+
+
+def taken_back(way: str) -> tuple[bytes, int | None]:
+    """What ssh tells that asks for a way back, and its status, None where it was granted."""
+    process = subprocess.Popen(("ssh", "-N", "-o", "ExitOnForwardFailure=yes", "-R", way, "rmtd@tapehost"), stderr=subprocess.PIPE)
+    try:
+        return process.communicate(timeout=GUARD_SECONDS)[1], process.returncode
+    except subprocess.TimeoutExpired:
+        process.kill()
+        process.communicate()
+        return b"it was taken", None
+
+
+def own_devices() -> None:
+    """Gives this machine a /dev of its own, with few devices and no syslog."""
+    own = Path("/mnt/dev")
+    own.mkdir()
+    for it in ("null", "zero", "full", "random", "urandom", "tty"):
+        (own / it).touch()
+        machines.mount("--bind", f"/dev/{it}", str(own / it))
+    (own / "fd").symlink_to("/proc/self/fd")
+    machines.mount("--rbind", str(own), "/dev")

@@ -1,0 +1,343 @@
+"""Runs the recipes of docs/TUTORIAL.md and docs/OPERATING.md as they are written there, and compares what they print with what is written
+there. It runs those of tests/checks/more_recipes.md too, which are for tests alone.
+
+A section of a document with commands is a recipe. A block `sh` is commands of which each has to succeed; in a block `console` a line
+after `$ ` is a command, and the lines below it are all that it prints. The line `After *TITLE*` names the recipe that is done before, and
+`Needs` names programs. A recipe whose programs are not on this machine is named as skipped. The test of a recipe has its title, with `_` for
+each space: `python3 -m tests recipes -k A_server_that_is_killed` runs one recipe.
+
+A section of README.md is a recipe too. A user who is not root runs *A server that is killed*, in a home of their own, with a pause of a second
+after each block, as a person takes it; and pastes it whole into a shell, 20 times in a row.
+
+Each recipe has a machine of its own: its /usr/local is what `make install` leaves, other folders that it may change are empty or copies, a
+copy of the repository's etc/ lies where it runs, the loopback is its own, and its processes end with it. That takes root, unshare(1) and
+make(1). Where they are not to be had, all recipes are named as skipped.
+
+On the machine of a recipe that needs apt(8), nothing is installed. The packages that packaging/deb.py makes of the programs lie in out/deb, as
+`make deb` leaves them, and /usr and /var are overlays. Where they are not to be had, the recipe is named as skipped.
+
+Each message of docs/MESSAGES.md that `rdump` prints, or `rmtd` at its start, is in a block `console` of one of these with its status, or below
+with the reason why it is not.
+"""
+
+from __future__ import annotations
+
+import re
+import shutil
+import subprocess
+import tempfile
+import unittest
+from pathlib import Path
+from typing import Iterator, NamedTuple
+
+from tests.lib.at_once import AtOnce, SlowCase, each
+from tests.lib.case import Case
+from tests.lib.machines import UNSHARE, has_machines, is_there, make
+from tests.lib.places import TOP, words_of_module
+from tests.lib.recipe_machine import PASTED
+from tests.lib.recipes import SIGN, USED, Command, Recipe, all_recipes, sections, with_those_before
+
+MESSAGES = TOP / "docs/MESSAGES.md"
+
+# A recipe that takes longer is killed, so that the checks end.
+RECIPE_SECONDS = 900
+# The same of a recipe that is pasted many times.
+PASTED_SECONDS = 2400
+# So many recipes run at once.
+AT_ONCE = 4
+
+RECIPES = all_recipes()
+
+# The messages that no recipe shows, each with the reason.
+UNSHOWN = {
+    "error: invalid value for '--idle <SECONDS>': a number is 0 to 9223372036854775807 in digits": "tests/checks/doors.py shows it",
+    "rmtd: unix:FILE: another process has the lock of its folder": "tests/checks/doors.py shows it",
+    "rmtd: unix:FILE: path must be shorter than SUN_LEN": "tests/checks/doors.py shows it",
+    (
+        "error: invalid value for '--to <ADDRESS>': an address is a host and a port, as in localhost:4711 or [::1]:4711, or unix: and an absolute"
+        " path, as in unix:/run/rmtd/socket"
+    ): "tests/checks/doors.py shows it",
+    "error: invalid value for '--to <ADDRESS>': the path of a Unix socket has at most 107 bytes": "tests/checks/doors.py shows it",
+    "rdump: ADDRESS: connection timed out": "tests/checks/doors.py shows it: it takes a system that answers no connection",
+    "rmtd: FOLDER: an earlier drive has this folder too": "tests/checks/clients.py shows it",
+    "rmtd: FOLDER: the bin is on another file system": "tests/checks/clients.py shows it",
+    "rmtd: FOLDER: the bin is on another mount": "tests/checks/clients.py shows it",
+    "rmtd: FOLDER: the bin is this folder too": "tests/checks/clients.py shows it",
+    "rmtd: it did not start: out of memory": "tests/checks/refused.py shows it: an allocation fails there only by chance",
+    "(yes, or anything else to abandon)": "tests/checks/told.py shows it: it takes a terminal",
+    "since the epoch: every block counts as new": "tests/checks/told.py shows it: it takes a terminal",
+    "volume N, block N of N, .. MiB/s": "a test of programs_tests shows it: it takes a terminal",
+    "volume N, block N, .. MiB/s": "tests/checks/restore.py shows it: it takes a terminal",
+    "block N, .. MiB/s": "tests/checks/restore.py shows it: it takes a terminal",
+    "reel N, N MiB, .. MiB/s": "tests/checks/ls.py shows it: it takes a terminal",
+    "block N is missing": "tests/checks/restore.py shows it",
+    "error: BadBlockSize: --block N: a block is 1 to 262144 bytes": "a test of dump_tests has this fault",
+    "error: BadDate: --date N: a date is 0 to 253402300799": "a test of dump_tests has this fault",
+    "error: BadDevice: --device <DEVICE>: a device is 1 to 255 bytes of one line": "a test of dump_tests has this fault",
+    "error: BadName: --fs <NAME>: a name is 1 to 255 bytes of printable ASCII without a space": "tests/checks/new_files.py shows it",
+    "error: TooManyBlocks: --block N: a dump has at most 2147483647 blocks": "a test of dump_tests has this fault",
+    "N block of N bytes": "tests/checks/restore.py shows it",
+    "N blocks of N to N bytes, N bytes in all": "tests/checks/restore.py shows it",
+    "no sum of volume N": "tests/checks/sums.py shows it",
+    "rdump: ADDRESS: a block of N bytes after one of N": "tests/checks/restore.py shows it: it takes a reel that no dump makes",
+    "rdump: ADDRESS: cannot be told": "tests/checks/restore.py shows it: it takes a server that answers in another way",
+    "rdump: ADDRESS: no mark": "tests/checks/restore.py shows it: it takes a reel whose mark is lost",
+    "rdump: ADDRESS: protected: the first reel of DEVICE begins with a mark; lay another reel first, then answer yes": (
+        "tests/checks/protect.py shows it"
+    ),
+    "rdump: ADDRESS: protected: the first reel of DEVICE begins with a record that is no label; lay another reel first, then answer yes": (
+        "tests/checks/protect.py shows it"
+    ),
+    "rdump: ADDRESS: the reel has volume N of NAME level N, another dump, status 0": "tests/checks/restore.py shows it, with --length",
+    "rdump: FILE.new: it is not one that rdump left: it is not touched": "tests/checks/new_files.py shows it",
+    "rdump: FILE: another file took its place while it was opened": "it takes an exchange between two calls of the system",
+    "rdump: FILE: another run writes it": "tests/checks/told.py shows it: it takes a server that does not answer",
+    "rdump: FILE: it changed while it was dumped: it had N bytes, and has N": "tests/checks/new_files.py shows it: the payload has to change",
+    "rdump: FILE: it changed while it was dumped: it was written to": "tests/checks/new_files.py shows it: the payload has to change",
+    "rdump: FILE: it could not be read": "tests/checks/ls.py shows it: it takes a disk that fails while the file is read",
+    "rdump: FILE: it could not be read or replaced": "it takes a failure for which the system has no reason",
+    "rdump: FILE: it could not be read or replaced: add this line:": "it takes a failure for which the system has no reason",
+    "rdump: FILE: it could not be removed": "it takes a failure for which the system has no reason",
+    "rdump: FILE: it is no dumpdates file, status 3": "tests/checks/updates.py shows it: the file has to change while a dump runs",
+    "rdump: FILE: it is no plain file": "tests/checks/restore.py shows it",
+    "rdump: FILE: it is the checkpoint file too: FILE": "tests/checks/new_files.py shows others of this form",
+    "rdump: FILE: it is the dumpdates file too: FILE": "tests/checks/new_files.py shows others of this form",
+    "rdump: FILE: it is the payload too: FILE": "tests/checks/new_files.py shows it",
+    "rdump: FILE: it is the sums file too: FILE": "tests/checks/new_files.py shows others of this form",
+    "rdump: FILE: it is younger than the checkpoint: it was written to at DATE, and FILE at DATE": "tests/checks/new_files.py shows it",
+    "rdump: FILE: its .new is no plain file": "tests/checks/updates.py shows it",
+    "rdump: FILE: its .new is not one that rdump left: it is not touched": (
+        "tests/checks/new_files.py shows it: the file has to come while a dump runs"
+    ),
+    "rdump: FILE: its .new is the .new of the checkpoint file too: FILE": "tests/checks/new_files.py shows others of this form",
+    "rdump: FILE: its .new is the .new of the dumpdates file too: FILE": "tests/checks/new_files.py shows others of this form",
+    "rdump: FILE: its .new is the .new of the sums file too: FILE": "tests/checks/new_files.py shows others of this form",
+    "rdump: FILE: its .new was locked for ten seconds": "tests/checks/updates.py shows it, and waits for it beside other checks",
+    "rdump: FILE: its folder could not be synced": "tests/checks/restore.py shows it: it takes a sync that fails",
+    "rdump: FILE: its length could not be read": "tests/checks/faults.py shows it: it takes a disk that fails between two calls",
+    "rdump: FILE: line N: bad date": "tests/checks/ls.py shows it",
+    "rdump: FILE: line N: bad line": "tests/checks/ls.py shows it",
+    "rdump: FILE: N bytes, fewer than N": "tests/checks/restore.py shows it",
+    "rdump: FILE: out of memory: add this line:": "it takes an allocation that fails while a volume is counted",
+    "rdump: FILE: the entry of NAME level N that this dump is to replace has a later date, DATE": "tests/checks/new_files.py shows it",
+    "rdump: FILE: whether it changed while it was dumped cannot be told: REASON": "tests/checks/faults.py shows it: it takes a call that fails",
+    "rdump: FOLDER: a name in it is not UTF-8": "tests/checks/ls.py shows it",
+    "rdump: no reel was found": "tests/checks/ls.py shows it",
+    "rdump: volume N has no sum": "no test knows how to bring it about: a sum is known of each volume that was counted",
+    "rdump: the clock: it tells no date": "tests/checks/faults.py shows it: all processes of a machine have one clock",
+    "the end of the dump is not known: without --length the last volumes may be missing, status 0": "tests/checks/restore.py shows it",
+    "the next reel gives no record": "tests/checks/restore.py shows it",
+    "the reel may be in the bin": "tests/checks/restore.py shows it: it takes a server that ends the connection at that request",
+    "this reel has: NAME level N DATE, volume N": "tests/checks/again.py shows it",
+    "volume N failed: OutOfMemory": "tests/checks/refused.py shows it: an allocation fails in a dump, and not before it, only by chance",
+}
+
+
+# A recipe on a machine of its own.
+
+
+class Ran(NamedTuple):
+    """The status of a recipe, None where it did not end, and all that it printed, each part by the line of its command."""
+
+    status: int | None
+    printed: dict[int, str]
+
+
+def ran(guard: int, *words: str) -> Ran:
+    """Runs recipes on a machine of their own, by the words of the module that does."""
+    with tempfile.TemporaryFile() as output:
+        inside = (*UNSHARE, *words_of_module("tests.lib.recipe_machine"), *words)
+        try:
+            status = subprocess.run(inside, stdin=subprocess.DEVNULL, stdout=output, stderr=subprocess.STDOUT, timeout=guard, check=False).returncode
+        except subprocess.TimeoutExpired:
+            status = None
+        output.seek(0)
+        head, *parts = output.read().decode(errors="replace").split(SIGN)
+    return Ran(status, {0: head} | {int(number): text for number, _, text in (it.partition("\n") for it in parts)})
+
+
+def missing_for(recipe: Recipe) -> str:
+    """What a recipe, or one before it, needs that is not on this machine, nothing if all is."""
+    missing = [it for one in with_those_before(recipe, RECIPES) for it in one.needs if not is_there(it)]
+    return ", ".join(missing) or ("" if has_machines() else "root, unshare and make")
+
+
+class RecipeCase(SlowCase[Ran]):
+    """Tests that run a recipe beside others."""
+
+    def recipe(self) -> Recipe:
+        """The recipe of this test."""
+        raise NotImplementedError
+
+    def words(self) -> tuple[str, ...]:
+        """What the module is told that runs it."""
+        raise NotImplementedError
+
+    guard = RECIPE_SECONDS
+
+    def work(self) -> Ran:
+        return Ran(None, {}) if self.missing() else ran(self.guard, *self.words())
+
+    def missing(self) -> str:
+        return missing_for(self.recipe())
+
+    def setUp(self) -> None:
+        if self.missing():
+            self.skipTest(f"{self.missing()} cannot be used on this machine")
+
+
+def method_name(title: str) -> str:
+    """The name of the test of a recipe."""
+    return re.sub(r"\W+", "_", f"test {title}").rstrip("_")
+
+
+class Recipes(RecipeCase):
+    """Each recipe prints what the document says. It has a test, of its title."""
+
+    recipes = {method_name(it.title): it for it in RECIPES.values()}
+
+    def recipe(self) -> Recipe:
+        return self.recipes[self._testMethodName]
+
+    def words(self) -> tuple[str, ...]:
+        return tuple(it.title for it in with_those_before(self.recipe(), RECIPES))
+
+    def compare(self) -> None:
+        """Compares what the recipe printed with what stands in the document."""
+        recipe, got = self.recipe(), self.came()
+        last, said = [*got.printed.items()][-1]
+        self.same(f"{recipe.title}: it comes to its end", got.status, 0, f"line {last}", said)
+        for it in recipe.commands():
+            if it.wanted is not None:
+                name = f"{recipe.title}, line {it.line}: {it.text.splitlines()[0]}"
+                self.same(name, got.printed.get(it.line), it.wanted)
+
+
+for name in Recipes.recipes:
+    setattr(Recipes, name, Recipes.compare)
+
+
+class Pasted(RecipeCase):
+    """The recipe of the README does the same each time where it is pasted whole, and leaves nothing."""
+
+    guard = PASTED_SECONDS
+
+    def recipe(self) -> Recipe:
+        return RECIPES[USED]
+
+    def shell(self) -> str:
+        return self._testMethodName.rpartition("_")[2]
+
+    def words(self) -> tuple[str, ...]:
+        return "--paste", self.shell(), USED
+
+    def missing(self) -> str:
+        return super().missing() or ("" if is_there(self.shell()) else self.shell())
+
+    def test_into_sh(self) -> None:
+        self.compare()
+
+    def test_into_bash(self) -> None:
+        self.compare()
+
+    def compare(self) -> None:
+        self.same(f"{USED}, pasted {PASTED} times into {self.shell()}", self.came(), Ran(0, {0: f"{PASTED}"}))
+
+
+class Uninstall(Case):
+    """`make uninstall` takes away what `make install` put there, and nothing else."""
+
+    def test_make_uninstall(self) -> None:
+        if not shutil.which("make"):
+            self.skipTest("make cannot be used on this machine")
+        folder = self.enterContext(tempfile.TemporaryDirectory())
+        make("install", folder)
+        of_another = Path(folder, "usr/local/sbin/other")
+        of_another.touch()
+        make("uninstall", folder)
+        left = [it for it in Path(folder).rglob("*") if not it.is_dir()]
+        self.same("make uninstall removes what make install put there, and nothing else", left, [of_another])
+
+
+# The page of messages.
+
+
+# The sections of messages whose statuses are compared, each with its program.
+SECTIONS = {"rmtd at its start": "rmtd", "rdump": "rdump"}
+# What varies in a message, and what is printed in its place.
+VARIES = {
+    "..": ".*",
+    "ADDRESS": r"(?:unix:/\S+|[\w.-]+:\d+)",
+    "DATE": ".+",
+    "DEVICE": r"/\S+",
+    "FILE": r"\S+",
+    "FOLDER": r"/\S+",
+    "N": r"\d+",
+    "NAME": r"\S+",
+    "REASON": r".+ \(os error \d+\)",
+}
+
+
+class Row(NamedTuple):
+    """A row of a table of messages: the program, the message, the pattern of its lines, and its statuses, None for any."""
+
+    program: str
+    message: str
+    pattern: re.Pattern[str]
+    statuses: tuple[str | None, ...]
+
+
+def pattern_of(message: str) -> re.Pattern[str]:
+    """The lines that are a message, perhaps after another program's words, or with the number of an error behind."""
+    words = "|".join(rf"\b{it}\b" if it.isalpha() else re.escape(it) for it in VARIES)
+    parts = [VARIES.get(it, re.escape(it)) for it in re.split(f"({words})", message)]
+    return re.compile(f"(?:^|: ){''.join(parts)}(?: \\(os error \\d+\\))?$", re.M)
+
+
+def rows() -> Iterator[Row]:
+    """The rows of the tables of these sections."""
+    for title, _, lines in sections(MESSAGES.read_text()):
+        for line in lines if title in SECTIONS else ():
+            found = re.match(r"\| `([^`]+)` \| ([^|]+) \|", line)
+            if found:
+                statuses = tuple(re.findall(r"\d", found[2]))
+                yield Row(SECTIONS[title], found[1], pattern_of(found[1]), statuses or (None,))
+
+
+def is_of(command: Command, program: str) -> bool:
+    """Whether a command runs a program by its name, or by the name of a script of the document."""
+    return re.search(rf"\b({program}|{'tapes' if program == 'rmtd' else 'try|cat told|cat why'})\b", command.text) is not None
+
+
+def has_status(command: Command, status: str | None) -> bool:
+    """Whether a command prints its status, and it is this one. None is any."""
+    return status is None or ("echo $?" in command.text and status in (command.wanted or "").splitlines())
+
+
+def printed_with(commands: list[Command], program: str, status: str | None) -> Iterator[str]:
+    """What the commands of a program print that end with a status."""
+    return (it.wanted or "" for it in commands if is_of(it, program) and has_status(it, status))
+
+
+class Messages(Case):
+    """Each message is shown with its status, or is one of those that are not shown."""
+
+    def test_messages_are_shown(self) -> None:
+        commands = [it for recipe in RECIPES.values() for it in recipe.commands()]
+        self.same("the page has messages of both programs", {it.program for it in rows()}, {"rmtd", "rdump"})
+        for it in rows():
+            for status in it.statuses:
+                shown = any(it.pattern.search(text) for text in printed_with(commands, it.program, status))
+                is_named = bool({it.message, f"{it.message}, status {status}"} & set(UNSHOWN))
+                name = f"{it.program} prints `{it.message}`, status {status or 'any'}"
+                self.same(f"{name}: a recipe shows it, or it is named as not shown", shown, not is_named)
+
+    def test_what_is_not_shown_is_on_the_page(self) -> None:
+        messages = {it.message for it in rows()}
+        for it in UNSHOWN:
+            self.holds("what is not shown is on the page", it.partition(", status ")[0] in messages, it)
+
+
+def load_tests(loader: unittest.TestLoader, tests: unittest.TestSuite, pattern: str | None) -> unittest.TestSuite:
+    """The tests, of which the recipes run at once."""
+    return AtOnce(AT_ONCE, each(tests))

@@ -1,0 +1,1 @@
+"""Plain slow programs that compute what the definitions say."""
