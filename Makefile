@@ -1,5 +1,5 @@
 # Builds, runs, tests and measures the tape server and the dump client. It needs the Rattle kit's `rt` in PATH, and
-# Python 3. `make` alone lists the targets.
+# Python 3.11. `make` alone lists the targets.
 
 SERVER := crates/rmtd/out/rmtd
 CLIENT := crates/rdump/out/rdump
@@ -8,6 +8,7 @@ FEED := crates/bench_feed/out/bench_feed
 MINUTES := out/minutes.txt
 RATIOS := out/bench.tsv
 PROGRAMS := rmtd rdump rsim
+TOOL_TESTS := $(addprefix tests.tools.,test_further test_promises test_counts test_bench)
 
 PREFIX ?= /usr/local
 DESTDIR ?=
@@ -23,44 +24,44 @@ help: ## list these targets
 	@sed -n 's/^\([a-z]*\):.*## /  make \1\t/p' $(MAKEFILE_LIST) | expand -t 18
 
 build: kit ## prove and build the three programs, crates side by side; it prints first how long that is likely to take
-	@python3 tests/build.py $(PROGRAMS)
+	@python3 -m tests.tools.build $(PROGRAMS)
 
 run: kit ## show a conversation with the server, turn by turn; if it is not built, from its sources without their proofs
-	@python3 tests/run.py
+	@python3 -m tests.tools.run
 
 try: kit ## compile a program without its proofs, as out/try/PROGRAM: make try PROGRAM=rdump
-	@python3 tests/unproved.py $(or $(PROGRAM),$(error make try needs a program: make try PROGRAM=rdump))
+	@python3 -m tests.tools.unproved $(or $(PROGRAM),$(error make try needs a program: make try PROGRAM=rdump))
 
 # The programs that are tested are those that `rt ci` has just proved and built.
 test: kit ## the gate: each proof from nothing, each wrong body that has to be refused, then the built programs from outside; it ends with the minutes of each
 	rm -rf $(SERVER) $(CLIENT) $(SIMULATOR) out/build
-	python3 tests/promises.py
-	python3 tests/homes.py
-	python3 tests/examples.py
-	python3 tests/messages.py
-	python3 tests/links.py
-	python3 tests/test_further.py
-	python3 tests/test_promises.py
-	python3 tests/gate.py --minutes $(MINUTES)
+	python3 -m tests.tools.style
+	python3 -m tests.tools.promises
+	python3 -m tests.tools.homes
+	python3 -m tests.tools.examples
+	python3 -m tests.tools.messages
+	python3 -m tests.tools.links
+	python3 -m unittest -q $(TOOL_TESTS)
+	python3 -m tests.tools.gate --minutes $(MINUTES)
 	@cat $(MINUTES)
 
 edits: kit ## try the further edits, wrong bodies that the prover has to refuse, many at once, as the gate does: make edits, or make edits CRATE=tape
-	@python3 tests/further.py $(CRATE)
+	@python3 -m tests.tools.further $(CRATE)
 
-bench: build ## long streams, reels in folders, dumps beside a floor, a long dumpdates file, a long reel and its sum, long schedules, and bytes in pieces; it ends with a table of ratios
-	@python3 tests/build.py bench_feed
+bench: build ## long streams, reels in folders, dumps beside a floor, a long dumpdates file, a long reel and its sum, long schedules, and bytes in pieces; it ends with a table of ratios, which make bench JSON=FILE also writes to FILE as JSON
+	@python3 -m tests.tools.build bench_feed
 	rm -f $(RATIOS)
-	python3 bench/stdio.py $(SERVER)
-	python3 bench/reels.py $(SERVER)
-	python3 bench/dates.py $(CLIENT)
-	python3 bench/sums.py $(CLIENT)
-	python3 bench/dump.py $(SERVER) $(CLIENT)
-	python3 bench/network.py $(SERVER) $(CLIENT)
-	python3 bench/instructions.py $(SERVER) $(CLIENT)
-	python3 bench/feed.py $(FEED)
-	python3 bench/schedules.py $(SIMULATOR)
-	python3 bench/threads.py --soak $(SERVER)
-	@python3 bench/table.py
+	python3 -m bench.stdio $(SERVER)
+	python3 -m bench.reels $(SERVER)
+	python3 -m bench.dates $(CLIENT)
+	python3 -m bench.sums $(CLIENT)
+	python3 -m bench.dump $(SERVER) $(CLIENT)
+	python3 -m bench.network $(SERVER) $(CLIENT)
+	python3 -m bench.instructions $(SERVER) $(CLIENT)
+	python3 -m bench.feed $(FEED)
+	python3 -m bench.schedules $(SIMULATOR)
+	python3 -m bench.threads --soak $(SERVER)
+	@python3 -m bench.table $(if $(JSON),--json $(JSON))
 
 install: build ## install the programs, their manual pages and the documents under PREFIX, below DESTDIR; what `make test` has proved and built is not proved again
 	install -d $(SBIN) $(BIN) $(MAN)/man8 $(MAN)/man1 $(DOC)

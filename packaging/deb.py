@@ -97,9 +97,9 @@ PACKAGES = {
 }
 
 
-def output(*command: str, **how: object) -> str:
+def output(*command: str, cwd: str | None = None, env: dict[str, str] | None = None) -> str:
     """What a command prints. If it fails, this program ends with what the command printed on standard error."""
-    ran = subprocess.run(command, capture_output=True, text=True, check=False, **how)
+    ran = subprocess.run(command, cwd=cwd, env=env, capture_output=True, text=True, check=False)
     if ran.returncode:
         sys.exit(f"deb.py: {' '.join(command)}: status {ran.returncode}\n{ran.stderr}")
     return ran.stdout.strip()

@@ -1,0 +1,1 @@
+"""The tools of the gate and of the documents."""

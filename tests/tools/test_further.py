@@ -1,0 +1,528 @@
+"""Tests how further.py forms lots, reads logs and keeps refusals, with a made repository and a made prover."""
+
+from __future__ import annotations
+
+import os
+import tempfile
+from pathlib import Path
+from typing import Callable, Iterable
+from unittest.mock import patch
+
+from tests.lib.case import Case
+from tests.tools import beside, controls, further, gate, proved, refusals
+from tests.tools.controls import Pair
+from tests.tools.further import Edit
+
+CRATE = """//! Words.
+use other::Word;
+
+/// The longest word.
+const LONGEST: usize = 7;
+pub(crate) const WIDEST: usize = 7;
+
+/// Whether a word is long.
+pub fn is_long(word: &[u8]) -> bool
+    ensures { result ≡ (length word.now > 7) }
+{
+    word.len() > LONGEST
+}
+
+impl<'a, R: Read> Words<'a, R> {
+    /// How many words came.
+    pub fn count(&self) -> u64
+        ensures { result ≡ self.now.count }
+    {
+        self.came
+    }
+
+    pub fn clear(&mut self) {
+        self.count = 0;
+    }
+}
+
+impl From<AllocError> for WordFault {
+    fn from(_: AllocError) -> WordFault {
+        WordFault::OutOfMemory
+    }
+}
+"""
+
+
+def edit(name: str, old: str, new: str) -> Edit:
+    """An edit of the made crate."""
+    changes = [Pair("src/lib.rt", old, new)]
+    folder = controls.TOP / "crates/words"
+    return Edit(name, changes, controls.places_of("words", folder, changes), further.only_of("words", folder, changes))
+
+
+def make_repository(top: Path) -> None:
+    """A repository of two crates, one on the other, with an edit."""
+    for name in ("words", "other"):
+        (top / "crates" / name / "src").mkdir(parents=True)
+        (top / "crates" / name / "specs").mkdir()
+        (top / "crates" / name / "specs/Words.antt").write_text("-- words\n")
+    (top / "crates/words/src/lib.rt").write_text(CRATE)
+    (top / "crates/other/src/lib.rt").write_text("//! Others.\n")
+    (top / "crates/words/further").mkdir()
+    (top / "crates/words/further/counts_one_less.edit").write_text("file: src/lib.rt\nold:         self.came\nnew:         self.came - 1\n")
+    (top / "crates.txt").write_text("# Two.\nother:\nwords: other itoa\nabove: words\n")
+    (top / "HANDLES").write_text("Handles allowed: none.\n")
+
+
+class Made(Case):
+    """A made repository in a temporary folder, with an empty folder for refusals."""
+
+    def setUp(self) -> None:
+        self.folder = Path(self.enterContext(tempfile.TemporaryDirectory(prefix="test-further-")))
+        self.top = self.folder / "top"
+        self.enterContext(patch.dict(os.environ, {"XDG_CACHE_HOME": str(self.folder / "cache")}))
+        for module in (controls, further, proved):
+            self.enterContext(patch.object(module, "TOP", self.top))
+        self.enterContext(patch.object(proved, "version", lambda: "a kit"))
+        make_repository(self.top)
+
+
+class Places(Made):
+    """Which functions an edit changes."""
+
+    def test_functions(self) -> None:
+        long, less = edit("long", "word.len() > LONGEST", "word.len() >= LONGEST"), edit("less", "self.came", "self.came - 1")
+        self.same("a free function", (long.places, long.only), ([("words", "is_long")], ["words::is_long"]))
+        self.same("a method", (less.places, less.only), ([("words", "count")], ["Words::count"]))
+        out = edit("out", "WordFault::OutOfMemory", "WordFault::Other")
+        self.same("a method of a trait", (out.places, out.only), ([("words", "from")], ["WordFaultFromAllocError::from"]))
+
+    def test_owners(self) -> None:
+        for head, owner in (
+            ("impl<'a, R: Read<u8>> Source<'a, R> {", "Source"),
+            ("impl<R: Read> Source<R, File> {", "Source+R+File"),
+            ("impl Source<File> {", "Source+File"),
+            ("pub fn open() {", ""),
+        ):
+            self.same(f"the owner of {head}", further.owner_of(f"impl Other {{\n}}\n{head}\n    fn open"), owner)
+
+    def test_outside_functions(self) -> None:
+        self.same("a use line is none of a function", edit("use", "use other::Word;", "use other::{Other, Word};").places, [])
+        of_all = edit("const", "const LONGEST: usize = 7;", "const LONGEST: usize = 8;")
+        self.same(
+            "a constant changes who names it", (of_all.places, of_all.is_local(), of_all.is_of_constant()), ([("words", "is_long")], True, True)
+        )
+        long = edit("long", "word.len() > LONGEST", "word.len() >= LONGEST")
+        self.same("a body that names one changes none", long.is_of_constant(), False)
+        wide = edit("wide", "pub(crate) const WIDEST: usize = 7;", "pub(crate) const WIDEST: usize = 8;")
+        self.same("one that other files see is not local", wide.is_local(), False)
+
+    def test_added_functions(self) -> None:
+        head = edit("head", "        ensures { result ≡ self.now.count }", "        ensures { result ≡ self.now.count } { 0 } fn whole(&self) -> u64")
+        self.same("what is added to a head is a body", (head.places, head.only), ([("words", "count"), ("words", "whole")], ["Words::count"]))
+        more = edit("more", "    fn from(_: AllocError)", "    fn other(&self) {} fn from(_: AllocError)")
+        self.same("what is added to the impl of a trait is looked at", more.only[-1:], ["WordFaultFromAllocError::other"], more)
+
+    def test_no_change(self) -> None:
+        self.same("the same text changes nothing", edit("same", "self.count = 0;", "self.count = 0;").places, [])
+
+
+class Lots(Made):
+    """Which edits are tried at once."""
+
+    def names(self, edits: list[Edit], *waits: tuple[further.Place, further.Place]) -> list[str]:
+        return [it.name for it in further.lot_of(self.top / "crates/words", edits, {*waits})]
+
+    def test_lots(self) -> None:
+        long, longer = edit("long", "word.len() > LONGEST", "word.len() >= LONGEST"), edit("longer", "word.len() > LONGEST", "true")
+        clear = edit("clear", "self.count = 0;", "self.count = 1;")
+        wide = edit("wide", "pub(crate) const WIDEST: usize = 7;", "pub(crate) const WIDEST: usize = 8;")
+        lost = Edit("lost", [Pair("src/lib.rt", "no such text", "")], [("words", "lost")], [])
+        self.same("edits of two functions are one lot", self.names([long, clear]), ["long", "clear"])
+        self.same("two of one function are none", self.names([long, longer, clear]), ["long", "clear"])
+        clears = clear._replace(name="clears", places=[("words::list", "clear")], changes=long.changes)
+        self.same("two of one name in two modules are one lot", self.names([clear, clears]), ["clear", "clears"])
+        self.same("one that changes more than bodies is alone", (self.names([long, wide]), self.names([wide, long])), (["long"], ["wide"]))
+        pair = (("words", "is_long"), ("words", "clear"))
+        found = self.names([long, clear], pair), self.names([clear, long], pair)
+        self.same("a function and one that waits for it are none", found, (["long"], ["clear"]))
+        self.same("one that can't be applied is in no lot", (self.names([lost, clear]), self.names([lost])), (["clear"], []))
+
+
+class Prover(proved.Work):
+    """A crate whose functions are right in this text alone, and two of which call others."""
+
+    calls = {"first": "second", "second": "third"}
+
+    def __init__(self, crate: Path, wrong: Iterable[str], unread: Iterable[str] = ()) -> None:
+        self.folder, self.wrong, self.unread = crate, {*wrong}, {*unread}
+        self.asked: list[list[str]] = []
+        self.only: list[list[str]] = []
+
+    def check(self, changes: list[Pair], only: Iterable[str] = ()) -> proved.Checked:
+        names = [it.new for it in changes]
+        self.asked.append(names)
+        self.only.append([*only])
+        if self.unread & {*names}:
+            return proved.Checked(1, "src/lib.rt:1:1: error: unexpected word\nlogic=not-proved")
+        lines, bad = [], {it for it in names if it in self.wrong}
+        for name in sorted(names):
+            callee = self.calls.get(name, "")
+            waits = f"no proof: it calls `words::{callee}`, which is not proved" if callee in bad else "proved"
+            lines.append(f"fn words::{name}: {'not proved' if name in bad and callee not in bad else waits}")
+        return proved.Checked(1 if bad else 0, "\n".join([*lines, f"only={len(names)} proved={len(names) - len(bad)}"]))
+
+
+class Killed(Prover):
+    """A prover that is killed each time."""
+
+    def check(self, changes: list[Pair], only: Iterable[str] = ()) -> proved.Checked:
+        return proved.Checked(-9, "")
+
+
+class Misnamed(Prover):
+    """A prover that finds no function of the name `List::first`."""
+
+    def check(self, changes: list[Pair], only: Iterable[str] = ()) -> proved.Checked:
+        if "List::first" not in only:
+            return super().check(changes, only)
+        self.only.append([*only])
+        return proved.Checked(2, "rattle: error: `words` has no function `List::first`: help: write the name that a check prints")
+
+
+EVERY = ("first", "second", "third", "fourth", "fifth")
+
+
+def made(*names: str) -> list[Edit]:
+    """Edits of functions of these names, in a crate that has a line for each."""
+    return [Edit(it, [Pair("src/lib.rt", f"[{it}]", it)], [("words", it)], [f"words::{it}"]) for it in names]
+
+
+def beginnings(found: dict[str, str]) -> dict[str, str]:
+    """How what is said of each edit begins, by the edit's name."""
+    known = ("refused", "NOT REFUSED", "BAD EDIT", "NOT TRIED")
+    return {name: next((it for it in known if said.startswith(it)), said) for name, said in found.items()}
+
+
+class Outcomes(Case):
+    """What comes of edits that are tried with a made prover."""
+
+    def setUp(self) -> None:
+        self.folder = Path(self.enterContext(tempfile.TemporaryDirectory(prefix="test-further-")))
+        (self.folder / "src").mkdir()
+        (self.folder / "src/lib.rt").write_text(" ".join(f"[{it}]" for it in EVERY))
+
+    def test_all_are_refused(self) -> None:
+        prover = Prover(self.folder, EVERY)
+        found = further.outcomes(prover, made(*EVERY))
+        self.same("each is refused", beginnings(found), dict.fromkeys(EVERY, "refused"), found)
+        self.same("those that wait are tried again, and not together", prover.asked, [[*EVERY], ["first"], ["second"]])
+
+    def test_one_is_proved(self) -> None:
+        found = further.outcomes(Prover(self.folder, {*EVERY} - {"third"}), made(*EVERY))
+        self.same("one that is proved is told", beginnings(found), {**dict.fromkeys(EVERY, "refused"), "third": "NOT REFUSED"}, found)
+
+    def test_one_cannot_be_read(self) -> None:
+        found = further.outcomes(Prover(self.folder, EVERY, {"fourth"}), made(*EVERY))
+        self.same("one that can't be read is found", beginnings(found), {**dict.fromkeys(EVERY, "refused"), "fourth": "BAD EDIT"}, found)
+
+    def test_a_check_is_killed(self) -> None:
+        found = further.outcomes(Killed(self.folder, EVERY), made(*EVERY))
+        self.same("none is refused by a check that was killed", beginnings(found), dict.fromkeys(EVERY, "NOT TRIED"), found)
+
+    def test_one_cannot_be_applied(self) -> None:
+        lost = Edit("lost", [Pair("src/lib.rt", "no such text", "")], [("words", "lost")], [])
+        found = further.outcomes(Prover(self.folder, {"first"}), [*made("first"), lost])
+        self.same("one that can't be applied is told", beginnings(found)["lost"], "BAD EDIT", found)
+
+    def test_names_that_are_not_found(self) -> None:
+        """A function that is not found by its name is looked for in its module."""
+        one = Edit("first", [Pair("src/lib.rt", "[first]", "first")], [("words::list", "first")], ["List::first"])
+        prover = Misnamed(self.folder, {"first"})
+        further.tried(prover, [one, *made("fourth")])
+        self.same("a name that is not found", prover.only, [["List::first", "words::fourth"], ["list", "words::fourth"]])
+        prover = Misnamed(self.folder, {"first"})
+        further.tried(prover, [one._replace(places=[("words", "first")]), *made("fourth")])
+        self.same("one of the root module", prover.only, [["List::first", "words::fourth"], []])
+
+
+class Logs(Case):
+    """What is read from the logs of checks."""
+
+    enter = Edit("enter", [], [("words::list", "enter")], [])
+    line = "fn words::list::List::enter: not proved; it calls `words::from`, which is not proved\n"
+    own = "./proofs/list/List/enter/Answers.antt:8:4: error: `returns`: `search`: no proof of `a ≡ b`\n"
+
+    def test_refused(self) -> None:
+        names = "./proofs/list/List/enter/Answers.antt:8:4: error: `returns`: module `Goals` has no `returns-in` that can be named\n"
+        refused = ["words::list::List::enter"]
+        for name, log, wanted in (
+            ("a function that waits is not refused", self.line, []),
+            ("one whose own answer is none is", self.own + self.line, refused),
+            ("one whose proof names what is gone is not, while it waits", names + self.line, []),
+            ("one that waits for none is", "fn words::list::List::enter: not proved\n", refused),
+        ):
+            self.same(name, further.refused_in(self.enter, log), wanted)
+
+    def test_one_name_in_two_modules(self) -> None:
+        """Two edits of one lot change functions of one name."""
+        both = [
+            Edit("in_list", [], [("words::list", "enter")], ["List::enter"]),
+            Edit("in_text", [], [("words::text", "enter")], ["Text::enter"]),
+        ]
+        end = "only=2 proved=1\n"
+        log = f"fn words::list::List::enter: not proved\nfn words::text::Text::enter: proved\n{end}"
+        self.same("the one that is refused is shown", [*further.refused_of(both, log)], ["in_list"])
+        log = f"fn words::list::List::enter: not proved\nfn words::list::Text::enter: proved\n{end}"
+        self.same("where the log does not tell which is whose, none is", [*further.refused_of(both, log)], [])
+        self.same("and one that is tried alone is", [*further.refused_of(both[1:], log)], ["in_text"])
+        log = f"fn words::text::enter: proved\nfn words::list::List::enter: proved\nfn words::list::Text::enter: not proved\n{end}"
+        self.same("nor one whose module has the type of the other", [*further.refused_of(both, log)], [])
+
+    def test_waits(self) -> None:
+        both = [self.enter, Edit("from", [], [("words", "from")], [])]
+        log = (
+            "fn words::list::List::enter: no proof: it calls `words::more` and `words::other`, which are not proved\n"
+            "fn words::more: not proved; it passes the block `words::FaultFromError`, which is not proved\n"
+            "fn words::FaultFromError::from: not proved\n"
+        )
+        self.same("one that waits through another waits", further.waits_in(both, log), {(("words::list", "enter"), ("words", "from"))})
+
+    def test_goals(self) -> None:
+        self.same("the goal is told", further.why_not("words::list::List::enter", self.own + self.line), self.own.strip()[2:])
+
+
+class Keys(Made):
+    """Under which name the refusal of an edit is kept."""
+
+    def key(self) -> str:
+        return refusals.key_of(refusals.sum_of_crate("words"), self.top / "crates/words/further/counts_one_less.edit")
+
+    def test_what_decides(self) -> None:
+        for name, text in (
+            ("crates/words/further/counts_one_less.edit", "file: src/lib.rt\nold:         self.came\nnew:         self.came - 2\n"),
+            ("crates/words/src/lib.rt", CRATE.replace("7", "8")),
+            ("crates/words/specs/Words.antt", "abbrev pub other : ℕ\n"),
+            ("crates/other/src/lib.rt", "fn other() {}\n"),
+            ("crates.txt", "other:\nwords: other\nabove: words\n"),
+            ("HANDLES", "Handles allowed: Wait.\n"),
+        ):
+            was, before = (self.top / name).read_text(), self.key()
+            (self.top / name).write_text(text)
+            self.holds(f"another {name} has another key", self.key() != before)
+            (self.top / name).write_text(was)
+            self.same(f"the same {name} has the same", self.key(), before)
+
+    def test_comments(self) -> None:
+        before, source = self.key(), self.top / "crates/words/src/lib.rt"
+        source.write_text(f"// A comment.\n\n{CRATE}")
+        self.same("another comment has the same key", self.key(), before)
+        source.write_text(f"const A: u8 = 1; // A comment.\n{CRATE}")
+        self.holds("but a line with more than a comment has another", self.key() != before)
+
+    def test_kit(self) -> None:
+        before = self.key()
+        with patch.object(proved, "version", lambda: "a later kit"):
+            self.holds("another kit has another key", self.key() != before)
+
+    def test_files(self) -> None:
+        before = self.key()
+        (self.top / "crates/words/out").mkdir()
+        (self.top / "crates/words/out/made.antt").write_text("-- made\n")
+        self.same("what is built decides nothing", self.key(), before)
+        (self.top / "crates/words/proofs").mkdir()
+        (self.top / "crates/words/proofs/More.antt").write_text("more\n")
+        self.holds("one more proof has another key", self.key() != before)
+
+
+class Kept(Made):
+    """What is kept of refusals."""
+
+    name = "0" * 64
+
+    def test_kept(self) -> None:
+        refusals.keep(self.name, "NOT REFUSED")
+        found = refusals.kept(self.name), (refusals.place() / self.name).exists()
+        self.same("what is not refused is not kept", found, ("", False))
+        refusals.keep(self.name, "refused: a goal")
+        self.same("a refusal is kept", refusals.kept(self.name), "refused: a goal")
+
+    def test_other_files(self) -> None:
+        refusals.keep(self.name, "refused: a goal")
+        for name, text in (
+            ("damaged", f"{self.name}\nrefu"),
+            ("cut", f"{self.name}\nrefused: a g"),
+            ("another's", f"{'1' * 64}\nrefused: a goal\n"),
+            ("no refusal", f"{self.name}\nNOT REFUSED\n"),
+        ):
+            (refusals.place() / self.name).write_text(text)
+            self.same(f"one that is {name} counts for nothing", refusals.kept(self.name), "")
+        (refusals.place() / self.name).write_bytes(b"\xff\xfe")
+        self.same("one that is no text counts for nothing", refusals.kept(self.name), "")
+
+    def test_no_folder(self) -> None:
+        (self.folder / "cache").write_text("no folder")
+        refusals.keep("2" * 64, "refused: a goal")
+        refusals.forget_old()
+        self.same("a folder that can't be written is no error", refusals.kept("2" * 64), "")
+
+
+PROVED = proved.Checked(0, "only=1 proved=1")
+REFUSED = proved.Checked(1, "fn words::Words::count: not proved\nonly=1 proved=0")
+
+
+class Answering(proved.Work):
+    """A made crate whose checks all have one answer. Something else may happen meanwhile."""
+
+    def __init__(self, answer: proved.Checked, meanwhile: Callable[[], object] = lambda: None) -> None:
+        self.answer, self.meanwhile = answer, meanwhile
+        self.checks, self.seconds, self.folder = 1, 1.0, controls.TOP / "crates/words"
+        self.asked: list[list[str]] = []
+
+    def check(self, changes: list[Pair], only: Iterable[str] = ()) -> proved.Checked:
+        self.asked.append([*only])
+        self.meanwhile()
+        return self.answer
+
+    def remove(self) -> None:
+        pass
+
+
+class Trials(Made):
+    """The edit of the made crate is tried, and what was refused is not tried again."""
+
+    def setUp(self) -> None:
+        super().setUp()
+        (self.folder / "room").mkdir()
+        self.room = proved.Room(self.folder / "room", ())
+
+    def tried(self, work: Answering) -> further.Trial:
+        """A trial of the crate, with these answers."""
+        trial = further.Trial("words")
+        with patch.object(further, "Work", lambda *_: work):
+            trial.run(self.room)
+        return trial
+
+    def left(self, is_anew: bool = False) -> list[str]:
+        """The edits that a new trial has to try."""
+        return [it.name for it in further.Trial("words", is_anew).left()]
+
+    def test_proved(self) -> None:
+        work = Answering(PROVED)
+        trial = self.tried(work)
+        self.same("one that is proved fails", (trial.failed(), work.asked), (1, [["Words::count"]]), trial.found)
+        self.same("and is tried again", self.left(), ["counts_one_less"])
+
+    def test_refused(self) -> None:
+        trial = self.tried(Answering(REFUSED))
+        self.same("one that is refused passes", trial.failed(), 0, trial.found)
+        again = further.Trial("words")
+        found = again.left(), again.failed(), "(kept)" in again.told("no checks")
+        self.same("and is not tried again", found, ([], 0, True), again.found)
+        self.same("but where all are asked for", self.left(is_anew=True), ["counts_one_less"])
+
+    def test_a_comment_that_has_the_text(self) -> None:
+        trial = self.tried(Answering(REFUSED))
+        source = self.top / "crates/words/src/lib.rt"
+        source.write_text(f"// Not {controls.pairs(trial.files[0].read_text())[0].old}\n{CRATE}")
+        self.same("nor counts what is kept where a comment makes it one that can't be applied", self.left(), ["counts_one_less"])
+
+    def test_more_than_bodies(self) -> None:
+        wide = edit("both", "pub(crate) const WIDEST: usize = 7;", "pub(crate) const WIDEST: usize = 8;")
+        both = wide._replace(places=[*wide.places, ("words", "count")], only=["Words::count"])
+        work = Answering(REFUSED)
+        found = beginnings(further.shown(work, [both], set()))
+        self.same(
+            "one that changes more than bodies is tried on the functions that it changes",
+            (work.asked, found),
+            ([["Words::count"]], {"both": "refused"}),
+        )
+        work = Answering(PROVED)
+        found = further.shown(work, [both], set())
+        self.same("and on all where these are proved", (work.asked, found), ([["Words::count"], []], {"both": "NOT REFUSED"}))
+
+    def test_texts_that_change_meanwhile(self) -> None:
+        specs = self.top / "crates/words/specs/Words.antt"
+        changing = self.tried(Answering(REFUSED, lambda: specs.write_text("changed meanwhile\n")))
+        found = self.left(), refusals.kept(changing.keys["counts_one_less"])
+        self.same("nothing is kept of texts that changed meanwhile", found, (["counts_one_less"], ""))
+        self.tried(Answering(REFUSED))
+        self.same("and what was tried again is", self.left(), [])
+        (self.top / "crates/other/src/lib.rt").write_text("fn changed() {}\n")
+        self.same("but where a crate below changed", self.left(), ["counts_one_less"])
+
+
+class Besides(Case):
+    """Lots beside `rt ci`: what its output says is proved, and which check begins."""
+
+    def setUp(self) -> None:
+        reading, writing = os.pipe()
+        source = self.enterContext(os.fdopen(reading))
+        self.output = os.fdopen(writing, "w")
+        self.lots = beside.Beside(source, processors=2)
+        self.addCleanup(self.end)
+        self.enterContext(patch.object(beside, "other_checks", lambda: 0))
+
+    def end(self) -> None:
+        """Ends the output, and waits until that is read."""
+        self.output.close()
+        self.lots.wait_for(["a crate that is never proved"])
+
+    def say(self, text: str) -> None:
+        self.output.write(text)
+        self.output.flush()
+
+    def test_proved_crates(self) -> None:
+        self.say("rt: other proved\nrt: words is kept: an earlier run\nrt: above: trying its must-fail edits (2)\n")
+        self.same("a crate is proved, or kept", self.lots.wait_for(["other", "words"]), True)
+        self.holds("one whose edits are tried is not yet", "above" not in self.lots.proved, self.lots.proved)
+        self.say("rt: above: another run is proving the same; waiting for itrt: wider is kept: an earlier run\n")
+        self.same("also where its message goes on in the line of another", self.lots.wait_for(["wider"]), True)
+
+    def test_which_check_begins(self) -> None:
+        with self.lots.changed, patch.object(self.lots, "waiting", [3, 5]):
+            with patch.object(beside, "other_checks", lambda: 1):
+                self.same("the largest crate begins", (self.lots.may_begin(5), self.lots.may_begin(3)), (True, False))
+                with patch.object(self.lots, "running", 1):
+                    self.same("no check begins if all processors are taken", self.lots.may_begin(5), False)
+                with patch.object(beside, "free_memory", lambda: 0):
+                    self.same("nor without memory beside another check", self.lots.may_begin(5), False)
+            with patch.object(beside, "free_memory", lambda: 0):
+                self.same("but alone it does", self.lots.may_begin(5), True)
+
+    def test_turns(self) -> None:
+        def counted() -> tuple[int, list[int]]:
+            return self.lots.running, self.lots.waiting
+
+        with patch.object(self.lots, "begins", lambda _: 1 / 0), self.assertRaises(ZeroDivisionError), self.lots.turn(6):
+            pass
+        self.same("a turn that fails waits no longer", counted(), (0, []))
+        with self.lots.turn(4):
+            self.same("a turn counts", counted(), (1, []))
+        self.same("up to its end", self.lots.running, 0)
+
+    def test_a_run_that_fails(self) -> None:
+        self.same("lots go on while the run does", self.lots.goes_on(), True)
+        self.say("12 passed, 1 failed\n")
+        self.output.close()
+        self.same("what is not proved at the end is not waited for", self.lots.wait_for(["above"]), False)
+        self.same("a run that failed ends the lots", self.lots.goes_on(), False)
+
+    def test_a_run_that_passes(self) -> None:
+        self.say("12 passed, 0 failed\n")
+        self.end()
+        self.same("and one that passed does not", self.lots.goes_on(), True)
+
+
+class Processes(Case):
+    """What is read of the processes of this machine."""
+
+    def test_a_process_that_has_ended(self) -> None:
+        with patch.object(beside, "words_of", lambda _: []):
+            self.same("a process that has ended is no check", beside.other_checks(), 0)
+
+    def test_the_check_of_a_lot(self) -> None:
+        """It runs in a folder that has not the crate's name, so the gate counts it under edits."""
+        folder = Path(self.enterContext(tempfile.TemporaryDirectory(prefix="test-further-")))
+        process, lots = folder / "1", folder / "words-edits"
+        process.mkdir()
+        lots.mkdir()
+        (process / "cmdline").write_bytes(b"rattle\0check\0--crate-name\0words\0src/lib.rt\0")
+        (process / "cwd").symlink_to(lots)
+        with patch.object(gate, "is_ours", lambda _: True):
+            self.same("the check of a lot counts as edits", gate.check_of(process), ("words", "edits"))
