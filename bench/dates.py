@@ -1,7 +1,6 @@
-#!/usr/bin/env python3
 """Measures `rdump dates` on a long dumpdates file, beside `cat` and `wc -l` on the same file in the same run.
 
-    dates.py [PROGRAM]
+    python3 -m bench.dates [PROGRAM]
 
 It prints ratios of the least of several times, each with the start of a process in it but where it is said otherwise.
 """
@@ -14,8 +13,8 @@ import sys
 import tempfile
 from pathlib import Path
 
-from stdio import LINEAR, Words, least_times
-from told import ratio, ratio_of_times, seconds
+from bench.stdio import LINEAR, Words, least_times
+from bench.told import ratio, ratio_of_times, seconds
 
 BUILT = Path(__file__).resolve().parent.parent / "crates/rdump/out/rdump"
 

@@ -1,7 +1,6 @@
-#!/usr/bin/env python3
 """Measures dumps over the loopback, beside `cat` of the same bytes through a socket pair, in the same run.
 
-    dump.py [RMTD [RDUMP]]
+    python3 -m bench.dump [RMTD [RDUMP]]
 
 It prints ratios of the least of several times, each with the start of the processes in it: a payload dumped in blocks of three sizes,
 the same with a sums file beside without one, and as much read back from a reel that a client of this file wrote; requests a second of an
@@ -23,10 +22,10 @@ from contextlib import contextmanager
 from pathlib import Path
 from typing import Callable, Iterator
 
-from told import ratio, ratio_of_times
-from wire import BLOCKS, CLOSE, GREATEST_RECORD, MARK, NO_OPERATION, write
-
-CRATES = Path(__file__).resolve().parent.parent / "crates"
+from bench.told import ratio, ratio_of_times
+from bench.wire import BLOCKS, CLOSE, GREATEST_RECORD, MARK, NO_OPERATION, write
+from tests.lib.given import given
+from tests.lib.places import CRATES
 
 ROUNDS = 5
 MIB = 1 << 20
@@ -42,8 +41,8 @@ def listening(rmtd: str, *drives: str, at: str = "127.0.0.1:0") -> Iterator[tupl
     words = (rmtd, "--listen", at, "--capacity", str(ROOM), *drives)
     with subprocess.Popen(words, stdout=subprocess.PIPE, stderr=subprocess.DEVNULL) as server:
         try:
-            found = re.search(r"listening on (.+)\n", server.stdout.readline().decode())
-            yield found[1], server
+            found = re.search(r"listening on (.+)\n", given(server.stdout).readline().decode())
+            yield given(found)[1], server
         finally:
             server.kill()
 
@@ -66,16 +65,16 @@ def timed(act: Callable[[], object]) -> float:
 def most_memory(process: int) -> float:
     """The MiB that a process has held at most."""
     status = Path(f"/proc/{process}/status").read_text()
-    return int(re.search(r"VmHWM:\s+(\d+)", status)[1]) / 1024
+    return int(given(re.search(r"VmHWM:\s+(\d+)", status))[1]) / 1024
 
 
 def through_a_pair(path: Path) -> None:
     """`cat` into one end of a socket pair, and `cat` out of the other."""
     near, far = socket.socketpair()
     with near, far, path.open("rb") as source:
-        with subprocess.Popen(("cat",), stdin=far, stdout=subprocess.DEVNULL) as drain:
+        with subprocess.Popen(("cat",), stdin=far.fileno(), stdout=subprocess.DEVNULL) as drain:
             far.close()
-            subprocess.run(("cat",), stdin=source, stdout=near, check=True)
+            subprocess.run(("cat",), stdin=source, stdout=near.fileno(), check=True)
             near.close()
             drain.wait()
 
@@ -84,8 +83,8 @@ def dumped(rmtd: str, rdump: str, path: Path, block: int, *more: str) -> tuple[f
     """The seconds of a dump, which has more words where these are given, and the MiB that the server held."""
     words = (rdump, "dump", "--device", "/dev/st0", "--fs", "/usr", "--level", "0", "--payload", str(path), "--block", str(block))
     with listening(rmtd) as (address, server):
-        words = (*words, "--dumpdates", "/dev/null", "--to", address, *more)
-        seconds = timed(lambda: subprocess.run(words, stdout=subprocess.DEVNULL, check=True))
+        whole = (*words, "--dumpdates", "/dev/null", "--to", address, *more)
+        seconds = timed(lambda: subprocess.run(whole, stdout=subprocess.DEVNULL, check=True))
         return seconds, most_memory(server.pid)
 
 
@@ -98,7 +97,7 @@ def with_sums(rmtd: str, rdump: str, path: Path, block: int) -> None:
         rounds.append([dumped(rmtd, rdump, path, block, *more)[0] for more in (("--sums", str(sums)), ())])
         if sums.read_bytes().count(b"\n") != 1:
             raise RuntimeError("a dump has no sum")
-    summed, plain = map(min, zip(*rounds))
+    summed, plain = (min(times) for times in zip(*rounds))
     ratio_of_times(f"256 MiB dumped in blocks of {block:,} with a sum / without", summed, plain)
     print(f"256 MiB in blocks of {block:,} bytes: dumped with a sum in {summed / plain:.2f} times the time without")
 

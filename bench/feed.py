@@ -1,7 +1,6 @@
-#!/usr/bin/env python3
 """Measures how long the two readers of `rmt_wire` take for a stream that is fed in pieces.
 
-    feed.py [PROGRAM]
+    python3 -m bench.feed [PROGRAM]
 
 It prints ratios of the least of several times, without the start of a process.
 """
@@ -13,9 +12,9 @@ import subprocess
 import sys
 from pathlib import Path
 
-from stdio import LINEAR, Words, least_times
-from told import ratio, seconds
-from wire import GREATEST_RECORD
+from bench.stdio import LINEAR, Words, least_times
+from bench.told import ratio, seconds
+from bench.wire import GREATEST_RECORD
 
 BUILT = Path(__file__).resolve().parent.parent / "crates/bench_feed/out/bench_feed"
 

@@ -1,7 +1,6 @@
-#!/usr/bin/env python3
 """Counts how many instructions both ends of a dump over the loopback, and of a volume that is read back, run for a byte of a block.
 
-    instructions.py [RMTD [RDUMP]] [--mib N]
+    python3 -m bench.instructions [RMTD [RDUMP]] [--mib N]
 
 The server has its reel in a folder. `valgrind --tool=callgrind` counts, and so the figures are the same whatever else the machine does, but for how
 the bytes were cut on their way. What a program takes beside the bytes is left out: the count is that of a dump less that of one a quarter as
@@ -21,10 +20,11 @@ import tempfile
 from pathlib import Path
 from typing import Callable, NamedTuple
 
-from dump import CRATES
-from network import MIB, Load, Programs, Reels, Words, payload
-from told import ratio
-from wire import BLOCKS
+from bench.network import MIB, Load, Programs, Reels, Words, payload
+from bench.told import ratio
+from bench.wire import BLOCKS
+from tests.lib.given import given
+from tests.lib.places import CRATES
 
 COUNT = ("valgrind", "--tool=callgrind", "--callgrind-out-file=/dev/null")
 QUARTER = 4
@@ -51,15 +51,14 @@ def collected(told: bytes) -> int:
 
 def counted(programs: Programs, reels: Reels, client: Callable[[str], Words]) -> Counts:
     """The instructions of a server, and of a client that it serves."""
-    words = (*COUNT, programs.rmtd, "--listen", "127.0.0.1:0", "--capacity", str(1 << 40), "--bin", str(reels.folder / "bin"))
-    words = (*words, f"/dev/st0={reels.paths[0].parent}")
-    with subprocess.Popen(words, stdout=subprocess.PIPE, stderr=subprocess.PIPE) as server:
+    serving = (programs.rmtd, "--listen", "127.0.0.1:0", "--capacity", str(1 << 40), "--bin", str(reels.bin()), f"/dev/st0={reels.paths[0].parent}")
+    with subprocess.Popen((*COUNT, *serving), stdout=subprocess.PIPE, stderr=subprocess.PIPE) as server:
         try:
-            address = re.search(r"listening on (.+)\n", server.stdout.readline().decode())[1]
-            ran = subprocess.run((*COUNT, *client(address)), stdout=subprocess.DEVNULL, stderr=subprocess.PIPE, check=True)
+            found = re.search(r"listening on (.+)\n", given(server.stdout).readline().decode())
+            ran = subprocess.run((*COUNT, *client(given(found)[1])), stdout=subprocess.DEVNULL, stderr=subprocess.PIPE, check=True)
         finally:
             server.send_signal(signal.SIGTERM)
-        return Counts(collected(server.stderr.read()), collected(ran.stderr))
+        return Counts(collected(given(server.stderr).read()), collected(ran.stderr))
 
 
 def both_ways(programs: Programs, load: Load, out: Path) -> tuple[Counts, Counts]:

@@ -1,12 +1,11 @@
-#!/usr/bin/env python3
 """Measures dumps over the loopback, and volumes that are read back, beside a floor on the same bytes in the same run.
 
-    network.py [RMTD [RDUMP]] [--mib N]
+    python3 -m bench.network [RMTD [RDUMP]] [--mib N]
 
-It prints ratios of the least of several times, each with the start of the clients in it: `rdump dump` and `rdump read` with a server that has a
-reel in memory, and with one that has it in a folder; and 32 of them at once, each with a drive of its own. Then dumps over TCP and over a Unix
-socket, without and with limits of time at both ends (--idle, --timeout), each beside the same floor, which is over TCP. Then what memory the server holds
-for 32 clients, and what a client holds. A time into a folder is up to when the bytes are synced. The files stand in the temporary folder.
+It prints ratios of the least of several times, each with the start of the clients in it: `rdump dump` and `rdump read` with a server that has a reel
+in memory, and with one that has it in a folder; and 32 of them at once, each with a drive of its own. Then dumps over TCP and over a Unix socket,
+without and with limits of time at both ends (--idle, --timeout), each beside the same floor, which is over TCP. Then what memory the server holds for
+32 clients, and what a client holds. A time into a folder is up to when the bytes are synced. The files stand in the temporary folder.
 
 The floor is `netfloor.c`: a client and a server of one block a turn with few calls of the system, and both trust what comes. It is built where
 there is a C compiler.
@@ -23,12 +22,15 @@ import sys
 import tempfile
 import time
 from contextlib import ExitStack, contextmanager
+from functools import partial
 from pathlib import Path
 from typing import Callable, ContextManager, Iterator, NamedTuple, Sequence, Union
 
-from dump import CRATES, connected, listening, most_memory, timed, write_volume
-from told import ratio, ratio_of_times
-from wire import BLOCKS, GREATEST_RECORD, write
+from bench.dump import connected, listening, most_memory, timed, write_volume
+from bench.told import ratio, ratio_of_times
+from bench.wire import BLOCKS, GREATEST_RECORD, write
+from tests.lib.given import given
+from tests.lib.places import CRATES
 
 FLOOR = Path(__file__).resolve().parent / "netfloor.c"
 
@@ -49,11 +51,15 @@ class Reels:
         self.folder, self.count = folder, count
         self.paths = [folder / f"st{number}" / f"r{number}" for number in range(count)] if folder else []
 
+    def bin(self) -> Path:
+        """The bin of drives in a folder."""
+        return given(self.folder) / "bin"
+
     def wipe(self) -> None:
         """Empty reels."""
         if self.folder:
             shutil.rmtree(self.folder, ignore_errors=True)
-            self.folder.joinpath("bin").mkdir(parents=True)
+            self.bin().mkdir(parents=True)
         for it in self.paths:
             it.parent.mkdir()
             it.touch()
@@ -98,7 +104,7 @@ class Programs:
         """A server of these reels, and its address."""
         drives = [f"/dev/st{number}={path.parent}" for number, path in enumerate(reels.paths)]
         idle = ["--idle", self.way.limit] if self.way.limit else []
-        return listening(self.rmtd, *idle, *(["--bin", str(reels.folder / "bin"), *drives] if drives else []), at=self.way.at)
+        return listening(self.rmtd, *idle, *(["--bin", str(reels.bin()), *drives] if drives else []), at=self.way.at)
 
     @contextmanager
     def serving(self, reels: Reels) -> Iterator[list[str]]:
@@ -128,15 +134,15 @@ class Floor:
     @contextmanager
     def serving(self, reels: Reels) -> Iterator[list[str]]:
         """A server for each reel, and their ports."""
-        words = [(self.program, "serve", str(path)) for path in reels.paths or ["-"]]
+        words = [(self.program, "serve", path) for path in [str(it) for it in reels.paths] or ["-"]]
         servers = [subprocess.Popen(it, stdout=subprocess.PIPE) for it in words]
         try:
-            yield [it.stdout.readline().decode().strip() for it in servers]
+            yield [given(it.stdout).readline().decode().strip() for it in servers]
         finally:
             for it in servers:
                 it.kill()
                 it.wait()
-                it.stdout.close()
+                given(it.stdout).close()
 
     def writes(self, address: str, _number: int, source: Path, block: int) -> Words:
         return (self.program, "write", address, str(block), str(source))
@@ -208,13 +214,14 @@ def in_turns(acts: Sequence[Callable[[], float]]) -> list[float]:
 def measure(title: str, load: Load, programs: Programs, floor: Floor, folder: Path, wanted: float | None) -> None:
     """Prints the lines of dumps and of volumes that are read back."""
     size = load.source.stat().st_size * load.reels.count
-    by_both = [lambda ends=ends: load.written(ends) for ends in (programs, floor)]
-    tell(f"dumped into {title}, blocks of {load.block:,}", in_turns(by_both), size, wanted)
+    both: tuple[Ends, Ends] = (programs, floor)
+    dumps = in_turns([partial(load.written, ends) for ends in both])
+    tell(f"dumped into {title}, blocks of {load.block:,}", dumps, size, wanted)
     if load.reels.folder:
         load.reels.fill(load.source, load.block)
     outs = [folder / f"out{number}" for number in range(load.reels.count)]
     with ExitStack() as servers:
-        by_one = [servers.enter_context(load.reading(ends, outs)) for ends in (programs, floor)]
+        by_one = [servers.enter_context(load.reading(ends, outs)) for ends in both]
         tell(f"read back from {title}, blocks of {load.block:,}", in_turns(by_one), size, wanted)
     for it in outs:
         it.unlink()
@@ -258,14 +265,14 @@ def measure_ways(programs: Programs, floor: Floor, folder: Path, mib: int) -> No
         Way("over a Unix socket", socket),
         Way("over a Unix socket, with limits", socket, "3600"),
     )
-    source, reels = payload(folder / "way_source", mib * MIB), Reels(folder / "ways")
+    source, drives = payload(folder / "way_source", mib * MIB), folder / "ways"
     for block in BLOCKS:
-        load = Load(source, block, reels)
-        ends = [Programs(programs.rmtd, programs.rdump, way) for way in ways]
-        *ours, least = in_turns([lambda it=it: load.written(it) for it in (*ends, floor)])
+        load = Load(source, block, Reels(drives))
+        ends: list[Ends] = [Programs(programs.rmtd, programs.rdump, way) for way in ways]
+        *ours, least = in_turns([partial(load.written, it) for it in (*ends, floor)])
         for way, seconds in zip(ways, ours):
             tell(f"dumped {way.title}, blocks of {block:,}", [seconds, least], source.stat().st_size, WANTED)
-    shutil.rmtree(reels.folder)
+    shutil.rmtree(drives)
     source.unlink()
 
 
@@ -283,7 +290,8 @@ def held_for_clients(programs: Programs, folder: Path, count: int, block: int) -
             stream.sendall(b"O/dev/st%d\n2\n" % number + write(bytes(block)))
             if streams.enter_context(stream.makefile("rb")).read(len(expected)) != expected:
                 raise RuntimeError("the server's answers are not as expected")
-        return most_memory(server.pid)
+        held = most_memory(server.pid)
+    return held
 
 
 def held_by_client(programs: Programs, source: Path, block: int) -> float:

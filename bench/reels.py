@@ -1,7 +1,6 @@
-#!/usr/bin/env python3
 """Measures the server over a folder drive, beside `cat`, GNU rmt and a floor on the same bytes in the same run.
 
-    reels.py [PROGRAM] [--mib N]
+    python3 -m bench.reels [PROGRAM] [--mib N]
 
 It prints ratios of the least of several times, each with the start of a process in it: 256 MiB written to a file, and read back; spacing
 over many records beside over half of them; one operation at the end of a reel of 1 GiB beside one at its beginning. Then what memory the
@@ -25,9 +24,10 @@ from collections import Counter
 from pathlib import Path
 from typing import Callable, Iterable, NamedTuple, Sequence
 
-from stdio import BUILT, LINEAR, SAME, Words, gnu_rmt, kilobytes, seconds_of, from_file
-from told import ratio, ratio_of_times, seconds
-from wire import BLOCKS, GREATEST_RECORD, read, write
+from bench.stdio import BUILT, LINEAR, SAME, Words, from_file, gnu_rmt, kilobytes, seconds_of
+from bench.told import ratio, ratio_of_times, seconds
+from bench.wire import BLOCKS, GREATEST_RECORD, read, write
+from tests.lib.given import given
 
 FLOOR = Path(__file__).resolve().parent / "floor.c"
 
@@ -113,8 +113,9 @@ def length(size: int) -> bytes:
 def answered(words: Words, source: Path, reply: bytes, count: int) -> bool:
     """Whether a server answers the open and then so often so, so that the times are those of the work meant."""
     with source.open("rb") as stream, subprocess.Popen(words, stdin=stream, stdout=subprocess.PIPE) as process:
-        good = process.stdout.read(3) == b"A0\n"
-        good &= all(process.stdout.read(len(reply)) == reply for _ in range(count)) and not process.stdout.read(1)
+        replies = given(process.stdout)
+        good = replies.read(3) == b"A0\n"
+        good &= all(replies.read(len(reply)) == reply for _ in range(count)) and not replies.read(1)
     return good and process.returncode == 0
 
 
@@ -143,24 +144,24 @@ class Load(NamedTuple):
     """Records of one size, with the stream that writes them and the one that reads them."""
 
     size: int
-    count: int
+    records: int
     data: bytes
     writes: Path
     reads: Path
 
     def stream_of_writes(self, drive: Drive, name: str, mode: int, device: str) -> Path:
-        return drive.stream(name, mode, (b"W%d\n%s" % (self.size, self.data) for _ in range(self.count)), device)
+        return drive.stream(name, mode, (b"W%d\n%s" % (self.size, self.data) for _ in range(self.records)), device)
 
     def stream_of_reads(self, drive: Drive, name: str, device: str) -> Path:
-        return drive.stream(name, 0, (b"R%d\n" % self.size for _ in range(self.count)), device)
+        return drive.stream(name, 0, (b"R%d\n" % self.size for _ in range(self.records)), device)
 
     def passes(self, drive: Drive, writer: Words, reader: Words) -> bool:
         """Whether these write the records to an empty reel, and read them back."""
         reply = b"A%d\n" % self.size
         drive.wipe()
-        written = answered(writer, self.writes, reply, self.count)
-        whole = drive.reel.stat().st_size == self.count * (self.size + 8)
-        return written and whole and answered(reader, self.reads, reply + self.data, self.count)
+        written = answered(writer, self.writes, reply, self.records)
+        whole = drive.reel.stat().st_size == self.records * (self.size + 8)
+        return written and whole and answered(reader, self.reads, reply + self.data, self.records)
 
 
 def load_of(drive: Drive, size: int, total: int) -> Load:
@@ -174,13 +175,16 @@ def load_of(drive: Drive, size: int, total: int) -> Load:
 def time_writes(drive: Drive, others: Others, load: Load) -> None:
     """Prints the line of the writes."""
     plain = drive.folder / "plain"
-    remove = lambda: plain.unlink(missing_ok=True)
+
+    def remove() -> None:
+        plain.unlink(missing_ok=True)
+
     runs = {"ours": Run(drive.wipe, drive.words, load.writes), "cat": Run(remove, ("sh", "-c", f"exec cat > {plain}"), load.writes)}
     if others.rmt:
         runs["rmt"] = Run(remove, others.rmt, load.stream_of_writes(drive, "to_file", 577, str(plain)))
     if floor := others.floor_to(drive, "write", load.size):
         runs["floor"] = Run(drive.wipe, floor, load.writes)
-    table_line(f"{round(load.size * load.count / MIB)} MiB written by {load.size:,} bytes", runs, wanted_beside_cat(load.size))
+    table_line(f"{round(load.size * load.records / MIB)} MiB written by {load.size:,} bytes", runs, wanted_beside_cat(load.size))
     drive.folder.joinpath("to_file").unlink(missing_ok=True)
     remove()
 
@@ -188,13 +192,13 @@ def time_writes(drive: Drive, others: Others, load: Load) -> None:
 def time_reads(drive: Drive, others: Others, load: Load) -> None:
     """Prints the line of the reads."""
     plain = drive.folder / "plain"
-    plain.write_bytes(load.data * load.count)
+    plain.write_bytes(load.data * load.records)
     runs = {"ours": Run(nothing, drive.words, load.reads), "cat": Run(nothing, ("cat", str(plain)), load.reads)}
     if others.rmt:
         runs["rmt"] = Run(nothing, others.rmt, load.stream_of_reads(drive, "from_file", str(plain)))
     if floor := others.floor_to(drive, "read", load.size):
         runs["floor"] = Run(nothing, floor, load.reads)
-    table_line(f"{round(load.size * load.count / MIB)} MiB read by {load.size:,} bytes", runs, wanted_beside_cat(load.size))
+    table_line(f"{round(load.size * load.records / MIB)} MiB read by {load.size:,} bytes", runs, wanted_beside_cat(load.size))
     plain.unlink()
 
 
@@ -307,9 +311,9 @@ def at_the_end(drive: Drive) -> bool:
 
 def ask(process: subprocess.Popen[bytes], requests: bytes, replies: int) -> None:
     """Sends requests, and waits for as many bytes as their replies have."""
-    process.stdin.write(requests)
-    process.stdin.flush()
-    if len(process.stdout.read(replies)) != replies:
+    given(process.stdin).write(requests)
+    given(process.stdin).flush()
+    if len(given(process.stdout).read(replies)) != replies:
         raise RuntimeError("the server ended early")
 
 
@@ -360,7 +364,7 @@ def calls(drive: Drive) -> None:
         print("\nskipped: strace is not on this machine, or may not be used, so calls of the system are not counted")
         return
     print("\nCalls of the system on the reel")
-    mark, rewind = operation(0, 1), operation(5, 1)
+    mark = operation(0, 1)
     for title, ready, requests in (
         ("an append of 10,240 bytes", False, b"W10240\n" + bytes(10_240)),
         (f"an append of {GREATEST_RECORD:,} bytes", False, write(bytes(GREATEST_RECORD))),

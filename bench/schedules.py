@@ -1,7 +1,6 @@
-#!/usr/bin/env python3
 """Measures `rsim` on schedules of growing length: seconds a line, beside those of a schedule a tenth as long.
 
-    schedules.py RSIM
+    python3 -m bench.schedules RSIM
 
 A ratio near 1 says that the time grows with the lines.
 """
@@ -15,7 +14,7 @@ import time
 from pathlib import Path
 from typing import Callable
 
-from told import ratio
+from bench.told import ratio
 
 SHORT, LONG = 100_000, 1_000_000
 HEAD = "drive /dev/st0 9000000000 r1\n"

@@ -1,7 +1,6 @@
-#!/usr/bin/env python3
 """Measures `rmtd --stdio` on long streams, beside `cat > /dev/null` and GNU rmt on the same bytes in the same run.
 
-    stdio.py [PROGRAM]
+    python3 -m bench.stdio [PROGRAM]
 
 It prints ratios of the least of several times, each with the start of a process in it, and what memory the server holds
 early, in the middle and at the end of a stream; then what spacing takes, by what it passes and by what stands on the
@@ -25,8 +24,9 @@ from dataclasses import dataclass
 from pathlib import Path
 from typing import Callable, Iterator, NamedTuple, Sequence
 
-from told import ratio, ratio_of_times, seconds
-from wire import GREATEST_RECORD, MARK, NO_OPERATION, REWIND, write
+from bench.told import ratio, ratio_of_times, seconds
+from bench.wire import GREATEST_RECORD, MARK, NO_OPERATION, REWIND, write
+from tests.lib.given import given
 
 BUILT = Path(__file__).resolve().parent.parent / "crates/rmtd/out/rmtd"
 
@@ -84,7 +84,7 @@ def one_byte_a_piece(words: Words, source: Path) -> None:
     """Runs a program with the stream written to it byte by byte, by a pipe in packet mode: one byte is one read."""
     pieces = [bytes((byte,)) for byte in source.read_bytes()]
     read_end, write_end = os.pipe2(os.O_DIRECT | os.O_CLOEXEC)
-    with subprocess.Popen(words, stdin=read_end, stdout=subprocess.DEVNULL) as process:
+    with subprocess.Popen(words, stdin=read_end, stdout=subprocess.DEVNULL):
         os.close(read_end)
         for piece in pieces:
             os.write(write_end, piece)
@@ -147,9 +147,7 @@ def seconds_of(feed: Callable[[Words, Path], None], words: Words, source: Path) 
     return time.perf_counter() - begin
 
 
-def least_times(
-    feed: Callable[[Words, Path], None], runs: Sequence[tuple[Words, Path]], repeats: int = REPEATS
-) -> list[float]:
+def least_times(feed: Callable[[Words, Path], None], runs: Sequence[tuple[Words, Path]], repeats: int = REPEATS) -> list[float]:
     """The least time of each run. They take turns, so that what else the machine does falls on all of them."""
     rounds = [[seconds_of(feed, *run) for run in runs] for _ in range(repeats)]
     return [min(times) for times in zip(*rounds)]
@@ -252,14 +250,14 @@ def measure_spacing(server: Words) -> bool:
 def kilobytes(process: subprocess.Popen[bytes], field: str) -> int:
     """A field of the process's status, in units of 1,024 bytes."""
     status = Path(f"/proc/{process.pid}/status").read_text()
-    return int(re.search(rf"^{field}:\s*(\d+) kB$", status, re.MULTILINE).group(1))
+    return int(given(re.search(rf"^{field}:\s*(\d+) kB$", status, re.MULTILINE))[1])
 
 
 def wait_until_read(process: subprocess.Popen[bytes]) -> None:
     """Returns once the program has read all that stands in the pipe to it, or has ended."""
     unread = bytearray(4)
     while process.poll() is None:
-        fcntl.ioctl(process.stdin, termios.FIONREAD, unread)
+        fcntl.ioctl(given(process.stdin), termios.FIONREAD, unread)
         if not any(unread):
             return
         time.sleep(0.001)
@@ -268,14 +266,12 @@ def wait_until_read(process: subprocess.Popen[bytes]) -> None:
 def resident_along(words: Words, source: Path) -> list[int]:
     """What memory a program holds after a sixteenth, a half and all of the stream, and the most that it ever held."""
     size = source.stat().st_size
-    with source.open("rb") as stream, subprocess.Popen(
-        words, stdin=subprocess.PIPE, stdout=subprocess.DEVNULL
-    ) as process:
-        found = []
+    with source.open("rb") as stream, subprocess.Popen(words, stdin=subprocess.PIPE, stdout=subprocess.DEVNULL) as process:
+        found, to_program = [], given(process.stdin)
         for place in (size // 16, size // 2, size):
             while (rest := place - stream.tell()) > 0:
-                process.stdin.write(stream.read(min(rest, PIECE)))
-            process.stdin.flush()
+                to_program.write(stream.read(min(rest, PIECE)))
+            to_program.flush()
             wait_until_read(process)
             found.append(kilobytes(process, "VmRSS"))
         return [*found, kilobytes(process, "VmHWM")]

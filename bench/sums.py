@@ -1,7 +1,6 @@
-#!/usr/bin/env python3
 """Measures `rdump ls --sums` over a reel of 256 MiB, beside `sha256sum` and `cat` of the same file in the same run.
 
-    sums.py [PROGRAM] [--mib N]
+    python3 -m bench.sums [PROGRAM] [--mib N]
 
 It prints ratios of the least of several times, each with the start of a process in it. `rdump ls` without sums stands beside.
 """
@@ -16,9 +15,9 @@ import sys
 import tempfile
 from pathlib import Path
 
-from stdio import Words, least_times
-from told import ratio_of_times
-from wire import BLOCKS
+from bench.stdio import Words, least_times
+from bench.told import ratio_of_times
+from bench.wire import BLOCKS
 
 BUILT = Path(__file__).resolve().parent.parent / "crates/rdump/out/rdump"
 

@@ -1,7 +1,6 @@
-#!/usr/bin/env python3
 """Measures the server where many connections come to its folder drives at once, on the loopback.
 
-    threads.py [RMTD] [--seconds N] [--seed N] [--soak | --rates]
+    python3 -m bench.threads [RMTD] [--seconds N] [--seed N] [--soak | --rates]
 
 A soak: 32 clients write volumes of random lengths to 4 drives, and take the reel away or close, while an operator puts reels back. At the
 end each reel that a client counted, and that was not put back since, is whole; no drive is held; and the server holds as many files and
@@ -26,11 +25,11 @@ import threading
 import time
 from contextlib import contextmanager
 from pathlib import Path
-from typing import Callable, Iterator
+from typing import Iterator
 
-from wire import CLOSE, GREATEST_RECORD, MARK, NO_OPERATION, OFFLINE
-
-CRATES = Path(__file__).resolve().parent.parent / "crates"
+from bench.wire import CLOSE, GREATEST_RECORD, MARK, NO_OPERATION, OFFLINE
+from tests.lib.given import given
+from tests.lib.places import CRATES
 
 CLIENTS = 32
 DRIVES = 4
@@ -75,13 +74,13 @@ class Server:
         words = [program, "--listen", "127.0.0.1:0", "--capacity", str(capacity), "--bin", str(self.bin)]
         words += [f"/dev/st{number}={it}" for number, it in enumerate(self.stacks)]
         self.process = subprocess.Popen(words, stdout=subprocess.PIPE, stderr=subprocess.DEVNULL)
-        found = re.search(r"listening on (.+):(\d+)\n", self.process.stdout.readline().decode())
+        found = given(re.search(r"listening on (.+):(\d+)\n", given(self.process.stdout).readline().decode()))
         self.address = (found[1], int(found[2]))
 
     def held(self) -> dict[str, int]:
         """The files, threads and bytes of memory that the server holds."""
         status = Path(f"/proc/{self.process.pid}/status").read_text()
-        memory, threads = (int(re.search(rf"{name}:\s+(\d+)", status)[1]) for name in ("VmRSS", "Threads"))
+        memory, threads = (int(given(re.search(rf"{name}:\s+(\d+)", status))[1]) for name in ("VmRSS", "Threads"))
         return {"files": len(os.listdir(f"/proc/{self.process.pid}/fd")), "threads": threads, "memory": memory << 10}
 
 
@@ -95,7 +94,7 @@ def serving(program: str, drives: int, capacity: int = 1 << 40) -> Iterator[Serv
         finally:
             server.process.kill()
             server.process.wait()
-            server.process.stdout.close()
+            given(server.process.stdout).close()
 
 
 class Talk:
@@ -312,8 +311,8 @@ def send_all(streams: list[socket.socket], heads: list[bytes], source: Path) -> 
     for it in workers:
         it.join()
     seconds = time.perf_counter() - began
-    for it in streams:
-        it.close()
+    for stream in streams:
+        stream.close()
     return seconds
 
 
@@ -333,7 +332,7 @@ def by_cat(folder: Path, count: int, source: Path) -> float:
             streams.append(socket.create_connection(listener.getsockname()))
             far, _ = listener.accept()
             with far, folder.joinpath(f"cat{number}").open("wb") as sink:
-                cats.append(subprocess.Popen(["cat"], stdin=far, stdout=sink))
+                cats.append(subprocess.Popen(["cat"], stdin=far.fileno(), stdout=sink))
     seconds = send_all(streams, [b""] * count, source)
     for it in cats:
         it.wait()
