@@ -87,7 +87,7 @@ impl FileMedium {
     pub fn read_only(file: File) -> FileMedium
         // The new medium has counted no failure and no cut to length 0. The new medium's
         // `is_written` returns false. A test shows that a write to the medium fails without a
-        // system call. Tests: `tests/moves.py`.
+        // system call. Tests: `tests/checks/moves.py`.
         ensures count { result.failures ≡ 0 }
         ensures begun { result.truncations ≡ 0 }
         ensures unwritten { result.written ≡ false }
@@ -136,7 +136,7 @@ impl FileMedium {
     pub fn last_error(&self) -> Option<io::Error>
         // `last_error` returns an error if and only if a `Medium` call has failed. A test shows
         // that `last_error` returns the error of the last `Medium` call that failed. Tests:
-        // `tests/log.py`.
+        // `tests/checks/log.py`.
         ensures { result ≡ None ↔ self.now.failures ≡ 0 }
     {
         match &self.failed {

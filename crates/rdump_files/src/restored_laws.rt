@@ -29,9 +29,9 @@ pub fn restored_volumes<F: RestoredFile>()
     // unless a later block overlaps it.
     ensures placed { (s t : FiledSink F) (calls : List SinkCall) → s.places ≡ true →
         Takes (FileStep (restored_kind F.holds F.kept)) s t calls true → PutsBlocks (restored_kind F.holds F.kept) s t calls }
-    // After any list of calls, the sink is still a sink with places. If the sink restored a dump
-    // before the calls, it restores the same dump after the calls. If the sink had a fixed block
-    // length before the calls, it has the same block length after the calls.
+    // After any list of calls, the sink is still a sink with places. If the dump
+    // that the sink restores was fixed before the calls, the sink restores the same dump after the
+    // calls. If the block length was fixed before the calls, it is the same after the calls.
     ensures same { (s t : FiledSink F) (calls : List SinkCall) (whole : Bool) → s.places ≡ true →
         Takes (FileStep (restored_kind F.holds F.kept)) s t calls whole → GoesOnAs s t }
 {}

@@ -32,7 +32,7 @@ pub trait WholeFile {
         // not say what a read returns. `ReplacedFile` writes a new text to a new file, and then
         // renames the new file to replace the old file. Tests show that `ReplacedFile` locks the
         // new file before it reads the old file. `ReplacedFile` holds the lock until the new text
-        // is in place. Tests: `tests/updates.py`.
+        // is in place. Tests: `tests/checks/updates.py`.
         ensures { gives self.old (plain_read result) self.new };
 
     /// Replaces the whole file with this text. The file need not exist.
@@ -45,7 +45,7 @@ pub trait WholeFile {
         // the rename. Tests also show that a failed replacement leaves no new file behind. If
         // another program has created a file with the name of the new file, the file of that
         // program stays. Tests: `what_takes_the_name_of_a_new_file` in `programs_tests`;
-        // `tests/updates.py`.
+        // `tests/checks/updates.py`.
         ensures { takes self.old text.now result self.new };
 }
 

@@ -19,9 +19,8 @@ pub enum EnterFault {
     Unwritten,
 }
 
-/// Enters a line in a sums file: reads the file, and replaces the file's text with a text that ends
-/// with the line. A file that does not exist is treated as empty. If the file has the line already,
-/// it stays.
+/// Adds a line at the end of a sums file. A file that does not exist is treated as empty. If the
+/// file has the line already, the file does not change.
 ///
 /// Returns `Unread` if the read fails, `Unwritten` if the replacement fails, and `Sums` if the file
 /// is not a sums file or an allocation fails. With `Unread` and `Sums` it does not try to replace

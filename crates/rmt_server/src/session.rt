@@ -136,10 +136,10 @@ impl<H: Holds, S: Stacks> Session<H, S> {
         // seat makes one step when it takes a drive, gives a drive back, or looks at a drive's
         // holder. After an open that succeeded, the seat's last step is a take of the opened drive.
         // This take found 0 (no holder). After an open that found the drive busy, the seat's last
-        // step is a take that found a number above 0 (a holder). In both cases, the take is the
-        // only step of the seat, unless the session first gave a drive back. This give is a step
-        // too. A close of a drive makes one step, a give. Requests other than open and close make
-        // no step.
+        // step is a take that found a number above 0 (a holder). In both cases, the seat makes
+        // at most one other step: if the session held a drive before the open, the seat gives this
+        // drive back before the take. A close of a drive makes one step, a give. Requests other
+        // than open and close make no step.
         //
         // Suppose that the content of the stacks and of the open reel is known. If an open tries to
         // take a drive and finds a number above 0 (a holder), this take is the last step of the

@@ -13,10 +13,10 @@
 //!
 //! A tape is a list of entries, with a *place* in the list. The next call acts at the place. An
 //! entry is a record of 1 to 262,144 bytes, or a mark. A *step* of a tape is one call's answer
-//! together with the change that the call makes to the tape. A reel stores a tape, for example on a
-//! medium. A *medium* is a store of bytes. You can read the bytes, append bytes at the end, and cut
-//! bytes off the end. A medium's *room* is how many more bytes fit on the medium. If a reel stores
-//! its tape on a medium, the medium's bytes are a *record file*: the bytes encode the reel's
+//! together with the change that the call makes to the tape. A reel stores one tape, in memory or on
+//! a medium. A *medium* is a store of bytes. You can read the bytes, append bytes at the end, and
+//! cut bytes off the end. A medium's *room* is how many more bytes fit on the medium. If a reel
+//! stores its tape on a medium, the medium's bytes are a *record file*: the bytes encode the reel's
 //! entries in order. A reel's *device* is the part of the reel that can fail, for example the
 //! medium. A *trouble* is an injected fault: the next call that reaches the reel's device fails.
 //! docs/REELS.md describes reels and their record files.

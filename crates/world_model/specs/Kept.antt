@@ -148,7 +148,7 @@ pub record IsWorldKept (w : World) : Type 0 where
   -- No two reels have the same name. Each reel of an accepted open in the history still exists.
   pub once : AreNamed w
   -- The connection of each accepted open in the history exists. If a session has a reel open for
-  -- writing, the last accepted open of this reel for writing is this session's open.
+  -- writing, no open of this reel for writing was accepted after the one by this session.
   pub opened : AreOpened w
   -- If a connection wrote on a reel, the last accepted open of this reel for writing before the
   -- write was on the same connection.
