@@ -187,13 +187,16 @@ class SumsCase(RestoreCase):
 
     def refused(self, title: str, told: str, *more: str, **changed: str | None) -> None:
         """The dump does not start, says this and no more, and leaves the folder as it was."""
-        before = {it.name: it.read_bytes() for it in self.p.folder.iterdir() if it.is_file()}
+        before = self.everything()
         with Model(*two()) as model:
             got = self.p.run(*self.p.dump_words(model.address, *more, **changed))
         self.same(f"{title}: it does not start", (got.output, got.status, model.logs), ("", FAILED, []), got.told)
         self.holds(f"{title}: what is told", re.fullmatch(told, got.told), got.told, told)
-        after = {it.name: it.read_bytes() for it in self.p.folder.iterdir() if it.is_file()}
-        self.same(f"{title}: the files", after, before)
+        self.same(f"{title}: the files", self.everything(), before)
+
+    def everything(self) -> dict[str, bytes | None]:
+        """All that lies in the folder, by name: the bytes of a plain file, and None for a folder, a pipe, or a link to nothing."""
+        return {it.name: it.read_bytes() if it.is_file() else None for it in self.p.folder.iterdir()}
 
     def unentered(self, title: str, got: Ended[str], files: list[bytes], why: str) -> None:
         """The lines of these reels could not be entered, for this reason: each is told whole, and the dump went on and is complete."""
