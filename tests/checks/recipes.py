@@ -58,7 +58,7 @@ UNSHOWN = {
         " path, as in unix:/run/rmtd/socket"
     ): "tests/checks/doors.py shows it",
     "error: invalid value for '--to <ADDRESS>': the path of a Unix socket has at most 107 bytes": "tests/checks/doors.py shows it",
-    "rdump: ADDRESS: connection timed out": "tests/checks/doors.py shows it: it takes a system that answers no connection",
+    "rdump: ADDRESS: connection timed out": "tests/checks/timeouts.py shows it: it takes a system that answers no connection",
     "rmtd: FOLDER: an earlier drive has this folder too": "tests/checks/clients.py shows it",
     "rmtd: FOLDER: the bin is on another file system": "tests/checks/clients.py shows it",
     "rmtd: FOLDER: the bin is on another mount": "tests/checks/clients.py shows it",

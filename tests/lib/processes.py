@@ -1,16 +1,21 @@
-"""Processes: one that is killed when it does not end, and what the system tells of one."""
+"""Processes: one that is killed when it does not end, one that is stopped for a while, and what the system tells of one."""
 
 from __future__ import annotations
 
+import os
 import re
+import signal
 import subprocess
 import threading
+import time
 from contextlib import contextmanager, suppress
 from pathlib import Path
-from typing import AnyStr, Iterator
+from typing import Any, AnyStr, Callable, Iterator, Sequence
 
+from tests.lib.case import Case
+from tests.lib.ended import Ended
 from tests.lib.given import given
-from tests.lib.waiting import GUARD_SECONDS
+from tests.lib.waiting import GUARD_SECONDS, soon
 
 
 @contextmanager
@@ -28,6 +33,23 @@ def guarded(process: subprocess.Popen[AnyStr], seconds: float = GUARD_SECONDS) -
             with suppress(OSError):
                 if it:
                     it.close()
+
+
+def tried(words: Sequence[str], **how: Any) -> Ended[str]:
+    """A program that is to end by itself, started as `how` tells Popen. Where it does not end it is killed."""
+    options: dict[str, Any] = {"stdin": subprocess.DEVNULL, "stdout": subprocess.PIPE, "stderr": subprocess.PIPE} | how
+    with guarded(subprocess.Popen(words, text=True, **options)) as process:
+        output, errors = process.communicate()
+    return Ended(output or "", errors or "", process.returncode)
+
+
+def stop_for(case: Case, process: int, seconds: float, during: Callable[[], object] = lambda: None) -> None:
+    """Stops a process for so long. Meanwhile something is done."""
+    os.kill(process, signal.SIGSTOP)
+    case.holds("a process is stopped", soon(lambda: state(process) == "T"))
+    during()
+    time.sleep(seconds)
+    os.kill(process, signal.SIGCONT)
 
 
 def state(process: int) -> str:
