@@ -21,16 +21,30 @@ static NAMES: [(WireFault, &str); 5] = [
     (WireFault::TooMuchData, "TooMuchData"),
 ];
 
+/// A fault of a stream for each kind, and its name.
+static STREAM_NAMES: [(StreamFault, &str); 3] = [
+    (
+        StreamFault::Broken(WireFault::BadNumber),
+        "Broken: BadNumber",
+    ),
+    (StreamFault::Truncated, "Truncated"),
+    (StreamFault::Input, "Input"),
+];
+
 #[test]
 fn faults_print_their_names(rt: HostRuntime) -> Result<(), Fail> {
     for (fault, name) in &NAMES {
         assert!(rt; prints(rt.alloc(), fault, name)?);
     }
+    Ok(())
+}
+
+#[test]
+fn faults_of_streams_print_their_names(rt: HostRuntime) -> Result<(), Fail> {
+    for (fault, name) in &STREAM_NAMES {
+        assert!(rt; prints(rt.alloc(), fault, name)?);
+    }
     assert!(rt; prints(rt.alloc(), &OutputFault, "Output")?);
-    let broken = StreamFault::Broken(WireFault::BadNumber);
-    assert!(rt; prints(rt.alloc(), &broken, "Broken: BadNumber")?);
-    assert!(rt; prints(rt.alloc(), &StreamFault::Truncated, "Truncated")?);
-    assert!(rt; prints(rt.alloc(), &StreamFault::Input, "Input")?);
     Ok(())
 }
 
