@@ -167,12 +167,12 @@ def functions_naming(text: str, constant: str) -> list[re.Match[str]]:
 
 def changed_at(text: str, change: Pair) -> list[re.Match[str] | None]:
     """The names, where they stand in a file, of the functions whose bodies a change changes; None for what is none of one. Outside functions, a
-    comment or a `use` line changes none, and a constant that no other file sees those that name it. What is added to the head of a function is
-    another body.
+    comment or a `use` line changes none, nor does a `pub(crate)` that is added, and a constant that no other file sees changes those that name it.
+    What is added to the head of a function is another body.
     """
     start = text.index(change.old)
     found = function_around(text, start, start + len(change.old), change.new.startswith(change.old))
-    if not found and re.fullmatch(r"\s*//.*|use .*", change.old):
+    if not found and (re.fullmatch(r"\s*//.*|use .*", change.old) or change.new.replace("pub(crate) ", "") == change.old):
         return []
     constant = None if found else re.match(r"(?:static|const) (\w+):", change.old)
     if not constant:

@@ -111,6 +111,10 @@ class Places(Made):
         self.same("a body that names one changes none", long.is_of_constant(), False)
         wide = edit("wide", "pub(crate) const WIDEST: usize = 7;", "pub(crate) const WIDEST: usize = 8;")
         self.same("one that other files see is not local", wide.is_local(), False)
+        seen = edit("seen", "const LONGEST: usize = 7;", "pub(crate) const LONGEST: usize = 7;")
+        self.same("what more of the crate sees changes none", (seen.places, seen.is_local()), ([], True))
+        other = edit("other", "const LONGEST: usize = 7;", "pub(crate) const LONGEST: usize = 8;")
+        self.same("but it does where something else changes too", other.places, [("words", "is_long")])
 
     def test_added_functions(self) -> None:
         head = edit("head", "        ensures { result ≡ self.now.count }", "        ensures { result ≡ self.now.count } { 0 } fn whole(&self) -> u64")
