@@ -154,11 +154,11 @@ class DoorCase(EachCommandCase):
         """The program did nothing but to tell a fault, which begins so."""
         self.same(name, (got.output, got.status, got.told[: len(beginning)]), ("", FAILED, beginning), got.told)
 
-    def no_address(self, address: str, why: str = NO_ADDRESS) -> None:
-        """Each command takes this for no address, for this reason, and does nothing."""
+    def no_address(self, address: str, why: str = NO_ADDRESS, title: str = "") -> None:
+        """Each command takes this for no address, for this reason, and does nothing. The comparison has the title, or else the address."""
         for name, words in commands(self.p, address).items():
             beginning = f"error: invalid value for '--to <ADDRESS>': {why}\n\nUsage: rdump {name} "
-            self.is_refused(f"{name} --to {address!r}", tried(words, cwd=self.p.folder), beginning)
+            self.is_refused(f"{name} --to {title or repr(address)}", tried(words, cwd=self.p.folder), beginning)
 
 
 # Addresses.
@@ -223,19 +223,19 @@ class Addresses(DoorCase):
         with self.door() as it:
             longest = LONGEST - len(str(it.path.parent)) - 1
             for name in ("s", "a b", "x:4711", "[::1]:4711", "ü", "@x", "=", "x" * longest):
-                self.goes_there(it.beside(name))
-            self.goes_there(it._replace(path=Path("//", *it.path.parts[1:])))
+                self.goes_there(f"the file {name!r}", it.beside(name))
+            self.goes_there("two slashes", it._replace(path=Path("//", *it.path.parts[1:])))
             too_long = it.beside("x" * (longest + 1))
             too_long.refused("a path of 108 bytes", TOO_LONG)
-            self.no_address(too_long.at(), PATH_TOO_LONG)
+            self.no_address(too_long.at(), PATH_TOO_LONG, "a path of 108 bytes")
             self.same("addresses: what is there", max(map(len, os.listdir(it.path.parent))), longest)
 
-    def goes_there(self, it: Door) -> None:
+    def goes_there(self, title: str, it: Door) -> None:
         """A server at this path prints so, and a client comes to it."""
         with it.serving() as process:
-            self.same(f"{it.at()}: it is served", tried(commands(self.p, it.at())["mt"]), Ended("A1\n", "", DONE))
+            self.same(f"{title}: it is served", tried(commands(self.p, it.at())["mt"]), Ended("A1\n", "", DONE))
             process.terminate()
-            self.same(f"{it.at()}: nothing more is printed", given(process.stdout).read(), b"")
+            self.same(f"{title}: nothing more is printed", given(process.stdout).read(), b"")
 
     def test_hosts(self) -> None:
         for host in ("127.0.0.1", "localhost", "[::1]"):

@@ -22,15 +22,20 @@ def bare(case: Case, title: str, lines: Sequence[str]) -> list[str]:
     return [HEAD.sub("", it, count=1) for it in lines]
 
 
+def whole_lines(server: Server) -> list[str]:
+    """The whole lines of the log so far."""
+    return server.log.read_text().split("\n")[:-1]
+
+
 def lines_of(case: Case, server: Server) -> list[str]:
     """The whole lines of the log so far, without the time and the program's name."""
-    *lines, _ = server.log.read_text().split("\n")
-    return bare(case, "the log", lines)
+    return bare(case, "the log", whole_lines(server))
 
 
 def has(case: Case, server: Server, pattern: str) -> bool:
-    """Whether the log has such a line, or soon has."""
-    return soon(lambda: any(re.fullmatch(pattern, it) for it in lines_of(case, server)))
+    """Whether the log has such a line, or soon has. The lines that it has then begin as each has to."""
+    soon(lambda: any(re.fullmatch(f"{HEAD.pattern}(?:{pattern})", it) for it in whole_lines(server)))
+    return any(re.fullmatch(pattern, it) for it in lines_of(case, server))
 
 
 def told(log: IO[bytes]) -> str:
