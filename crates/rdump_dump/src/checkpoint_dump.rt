@@ -108,6 +108,23 @@ fn resume<R: ClientSystem, M: Medium + Drop, T: Write + Copy + Drop>(
         Ok(checkpoint) => checkpoint,
         Err(fault) => return refuse_text(rt, path, fault),
     };
+    resume_from(rt, line, run, checkpoint, payload, start, file, terminal)
+}
+
+/// Resumes a dump from this checkpoint, and returns the exit status.
+fn resume_from<R: ClientSystem, M: Medium + Drop, T: Write + Copy + Drop>(
+    rt: &R,
+    line: &DumpLine<'_>,
+    run: &Run,
+    checkpoint: Checkpoint,
+    payload: PayloadFile<M>,
+    start: &DumpStart,
+    file: ReplacedFile<'_, R>,
+    terminal: Option<T>,
+) -> ExitStatus
+    requires { IsRunsPayload run.now payload }
+{
+    let path = line.checkpoint.unwrap_or("");
     let dates = dates_of(checkpoint.run());
     let gauge = terminal.map(|it| ProgressLine::new(rt, it));
     let is_summed = line.sums.is_some();

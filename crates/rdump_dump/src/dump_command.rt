@@ -314,13 +314,19 @@ fn text_of<R: ClientSystem>(rt: &R, date: u64) -> io::Result<String> {
 
 /// Prints why a dumpdates file cannot be written, if so. Fails only if an allocation fails.
 fn warn<R: ClientSystem>(rt: &R, dumpdates: &str) -> io::Result<()> {
-    match ReplacedFile::new(rt, rt.alloc(), dumpdates).find_fault() {
+    let fault = ReplacedFile::new(rt, rt.alloc(), dumpdates).find_fault();
+    match fault {
         None => Ok(()),
         Some(error) if error.kind() == ErrorKind::OutOfMemory => Err(error),
         Some(error) => {
-            let dumpdates = plain(dumpdates);
-            let _ = eprintln!(rt; "rdump: {dumpdates}: {error}: the dump can't be entered");
+            report_unwritable(rt, dumpdates, &error);
             Ok(())
         }
     }
+}
+
+/// Prints why a dumpdates file cannot be written.
+fn report_unwritable<R: Eprint>(rt: &R, dumpdates: &str, error: &io::Error) {
+    let dumpdates = plain(dumpdates);
+    let _ = eprintln!(rt; "rdump: {dumpdates}: {error}: the dump can't be entered");
 }
