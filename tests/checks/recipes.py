@@ -66,7 +66,7 @@ UNSHOWN = {
     "rmtd: it did not start: out of memory": "tests/checks/refused.py shows it: an allocation fails there only by chance",
     "(yes, or anything else to abandon)": "tests/checks/told.py shows it: it takes a terminal",
     "since the epoch: every block counts as new": "tests/checks/told.py shows it: it takes a terminal",
-    "volume N, block N of N, .. MiB/s": "a test of programs_tests shows it: it takes a terminal",
+    "volume N, block N of N, .. MiB/s": "a test of parts_tests shows it: it takes a terminal",
     "volume N, block N, .. MiB/s": "tests/checks/restore.py shows it: it takes a terminal",
     "block N, .. MiB/s": "tests/checks/restore.py shows it: it takes a terminal",
     "reel N, N MiB, .. MiB/s": "tests/checks/ls.py shows it: it takes a terminal",

@@ -1,7 +1,6 @@
-//! Arguments, served streams, dumps, volumes that are read back, operations and dumpdates files,
-//! against values worked out by hand.
+//! Dumps, volumes that are read back, operations and dumpdates files, against values worked out by
+//! hand.
 
-mod arguments;
 mod checkpoints;
 mod commands;
 mod compared;
@@ -9,25 +8,14 @@ mod dates;
 mod entering;
 mod fake;
 mod fixture;
-mod folders;
-mod left;
 mod lines;
-mod listening;
 mod listing;
-mod log_lines;
 mod looks;
 mod memory_peer;
 mod operations;
 mod payload;
-mod printing;
-mod progress;
-mod restored;
 mod restored_stack;
-mod socket;
-mod startup;
-mod statuses;
 mod store;
-mod streams;
 mod volumes;
 
 use std::process::Abort;

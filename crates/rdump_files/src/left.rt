@@ -60,7 +60,7 @@ pub fn is_left_dates(alloc: Global, bytes: &[u8]) -> Result<bool, AllocError>
     // remainder that can be empty. The remainder contains only spaces and printable ASCII
     // characters, and no line feed. Tests show that the remainder looks like the beginning of a
     // line. Tests also show that the call returns true for every beginning of a dumpdates text that
-    // `rdump` writes. Tests: `what_is_left_of_dumpdates` in `programs_tests`;
+    // `rdump` writes. Tests: `what_is_left_of_dumpdates` in `parts_tests`;
     // `tests/checks/new_files.py`.
     ensures { IfOk result (λ is_left. IsTrue is_left → IsLeftDates bytes.now) }
 {
@@ -78,7 +78,7 @@ pub fn is_left_dates(alloc: Global, bytes: &[u8]) -> Result<bool, AllocError>
 pub fn is_left_checkpoint(alloc: Global, bytes: &[u8]) -> Result<bool, AllocError>
     // If the call returns true, the bytes are a beginning of the text of a checkpoint. Tests show
     // that the call returns true for every beginning of a checkpoint's text. Tests:
-    // `what_is_left_of_a_checkpoint` in `programs_tests`; `tests/checks/new_files.py`.
+    // `what_is_left_of_a_checkpoint` in `parts_tests`; `tests/checks/new_files.py`.
     ensures { IfOk result (λ is_left. IsTrue is_left → BeginsCheckpoint bytes.now) }
 {
     if begins_run(alloc, bytes)? {

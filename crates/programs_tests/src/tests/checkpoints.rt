@@ -3,9 +3,8 @@
 
 use super::check_row;
 use super::fake::{FakePeer, Replies};
-use super::fixture::{PayloadDumper, TWO_BYTES, client, line, payload};
+use super::fixture::{Hidden, PayloadDumper, TWO_BYTES, client, line, payload};
 use super::lines::{EMPTY, FULL, LAST};
-use super::progress::Seen;
 use dump_client::{Blocks, Client};
 use dump_run::{Checkpoint, Run, VolumeCount, push_checkpoint};
 use exit_status::ExitStatus;
@@ -222,7 +221,7 @@ fn comes_back(alloc: Global, text: &[u8]) -> Option<Result<(usize, u32), Resumed
     let run = run_of(&line(TWO_BYTES), 0, 0, &payload).ok()?;
     let checkpoint = Checkpoint::read(alloc, text).ok()?;
     Some(
-        match resume_dump(alloc, &run, checkpoint, payload, Seen::new(), true) {
+        match resume_dump(alloc, &run, checkpoint, payload, Hidden, true) {
             Ok(client) => Ok((client.counted().len(), client.checkpoint().1)),
             Err(fault) => Err(fault),
         },
@@ -312,18 +311,23 @@ fn dumps_from_a_checkpoint_file(rt: HostRuntime) -> Result<(), Fail> {
     Ok(())
 }
 
+/// Whether a file that `one` holds is not read or replaced by `other`.
+fn is_held_by(alloc: Global, one: &mut impl WholeFile, other: &mut impl WholeFile) -> bool {
+    let are_empty = one.read(alloc).is_ok() && other.read(alloc).is_ok();
+    let is_kept = one.replace(NONE).is_ok() && one.replace(ONE).is_ok();
+    are_empty && is_kept && other.replace(NONE).is_err() && other.read(alloc).is_err()
+}
+
 /// A file that one run holds is not read by another. A file that one run made is not replaced by
 /// another run that found none.
 #[test]
 fn a_file_that_is_held(rt: HostRuntime) -> Result<(), Fail> {
     let mut one = ReplacedFile::held(&rt, rt.alloc(), "held");
     let mut other = ReplacedFile::held(&rt, rt.alloc(), "held");
-    let empty = one.read(rt.alloc()).is_ok() && other.read(rt.alloc()).is_ok();
-    let kept = one.replace(NONE).is_ok() && one.replace(ONE).is_ok();
-    let refused = other.replace(NONE).is_err() && other.read(rt.alloc()).is_err();
+    let is_held = is_held_by(rt.alloc(), &mut one, &mut other);
     let read = fs::read(&rt, "held")?;
-    let removed = one.remove().is_ok() && !fs::exists(&rt, "held").unwrap_or(true);
-    assert!(rt; empty && kept && refused && removed);
-    assert!(rt; read.as_slice() == ONE && other.replace(NONE).is_ok() && other.remove().is_ok());
+    let is_removed = one.remove().is_ok() && !fs::exists(&rt, "held").unwrap_or(true);
+    assert!(rt; is_held && is_removed && read.as_slice() == ONE);
+    assert!(rt; other.replace(NONE).is_ok() && other.remove().is_ok());
     Ok(())
 }

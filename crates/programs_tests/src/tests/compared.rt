@@ -161,16 +161,20 @@ fn counted_line(alloc: Global, payload: Vec<u8>) -> Option<SumLine>
     let source = Summed::new(ListBlocks::new(payload, 2, 2), true);
     let mut client = Client::new(alloc, run, source).ok()?;
     client.start().ok()?;
+    answer_all(alloc, &mut client);
+    let count = *client.counted().first()?;
+    sum_line_of(&client, count)
+}
+
+/// Replies to each request of a client's attempt.
+fn answer_all(alloc: Global, client: &mut Client<Summed<ListBlocks>>) {
     let mut asked = Vec::new(alloc);
     for _ in 0..10 {
         asked.clear();
-        if !client.next_request(&mut asked).ok()? {
-            break;
+        if let Ok(true) = client.next_request(&mut asked) {
+            client.feed(reply_to(&asked));
         }
-        client.feed(reply_to(&asked));
     }
-    let count = *client.counted().first()?;
-    sum_line_of(&client, count)
 }
 
 /// Returns the reply to a request that was done.

@@ -80,15 +80,19 @@ fn what_lies_in_place_of_a_new_file(rt: HostRuntime) -> Result<(), Fail> {
 /// The text of a sums file is replaced, and the new file is gone then.
 #[test]
 fn a_sums_file_that_is_replaced(rt: HostRuntime) -> Result<(), Fail> {
-    let mut file = ReplacedFile::of_sums(&rt, rt.alloc(), "sums");
-    assert!(rt; file.read(rt.alloc()) == Ok(None));
-    assert!(rt; fs::exists(&rt, "sums.new").unwrap_or(false));
-    assert!(rt; file.replace(b"a line\n").is_ok());
-    assert!(rt; !fs::exists(&rt, "sums.new").unwrap_or(true));
+    assert!(rt; is_made_and_gone(&rt));
     let kept = fs::read(&rt, "sums")?;
     fs::remove_file(&rt, "sums")?;
     assert!(rt; kept.as_slice() == b"a line\n".as_slice());
     Ok(())
+}
+
+/// Whether the new file is there after a read of the sums file, and gone after a replacement.
+fn is_made_and_gone(rt: &HostRuntime) -> bool {
+    let mut file = ReplacedFile::of_sums(rt, rt.alloc(), "sums");
+    let is_made = file.read(rt.alloc()) == Ok(None) && fs::exists(rt, "sums.new").unwrap_or(false);
+    let is_gone = file.replace(b"a line\n").is_ok() && !fs::exists(rt, "sums.new").unwrap_or(true);
+    is_made && is_gone
 }
 
 /// If another run has replaced this run's new file by its own, that file stays.

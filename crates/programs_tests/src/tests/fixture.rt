@@ -2,10 +2,9 @@
 
 ghost use Rattle.std.specs.Prelude.{◌≡◌, IfSome};
 
-use super::progress::Seen;
 use dump_client::Client;
 use rdump_args::DumpLine;
-use rdump_files::{PayloadFile, Shown, dumper};
+use rdump_files::{Gauge, PayloadFile, Shown, dumper};
 use std::alloc::Global;
 use tape::MemoryMedium;
 use volume_sum::Summed;
@@ -15,11 +14,24 @@ pub(super) const TWO_BYTES: u64 = 2;
 
 pub(super) const DEVICE: &[u8] = b"/dev/st0";
 
+/// A gauge that shows nothing.
+#[derive(Drop)]
+pub(super) struct Hidden;
+
+impl Gauge for Hidden {
+    fn begin(&mut self, _blocks: u32) {}
+
+    fn begin_volume(&mut self, _volume: u32, _first: u32) {}
+
+    fn show(&mut self, _block: u32, _bytes: usize) {}
+}
+
 /// A payload on a medium in memory.
 pub(super) type Payload = PayloadFile<MemoryMedium>;
 
-/// A client that reads its blocks from a payload, shows its progress and can sum its volumes.
-pub(super) type PayloadDumper = Client<Summed<Shown<Payload, Seen>>>;
+/// A client that reads its blocks from a payload, and can sum its volumes. Its progress is not
+/// shown.
+pub(super) type PayloadDumper = Client<Summed<Shown<Payload, Hidden>>>;
 
 /// The arguments of a dump of `/usr` at level 1, in blocks of this size.
 pub(super) fn line(block: u64) -> DumpLine<'static>
@@ -54,5 +66,5 @@ pub(super) fn payload(alloc: Global, block_bytes: u64) -> Option<Payload>
 pub(super) fn client(alloc: Global, block_bytes: u64) -> Option<PayloadDumper> {
     let payload = payload(alloc, block_bytes)?;
     let line = line(block_bytes);
-    dumper(alloc, &line, 951868800, 951782400, payload, Seen::new()).ok()
+    dumper(alloc, &line, 951868800, 951782400, payload, Hidden).ok()
 }

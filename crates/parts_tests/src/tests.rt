@@ -1,0 +1,21 @@
+//! Arguments, printed text, served streams and restored files, against values worked out by hand.
+
+mod arguments;
+mod folders;
+mod left;
+mod listening;
+mod log_lines;
+mod printing;
+mod progress;
+mod restored;
+mod socket;
+mod startup;
+mod statuses;
+mod streams;
+
+use std::process::Abort;
+
+/// Fails the test with the number of the row if `right` is false.
+pub(crate) fn check_row(rt: &impl Abort, at: usize, right: bool) {
+    assert!(rt; right, "row {at}");
+}
