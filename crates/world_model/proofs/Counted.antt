@@ -1,7 +1,7 @@
 -- A reel that was counted and not reopened has the sum of its volume.
 -- What a quiet attempt wrote, and what was counted, stand on their reels.
 use Rattle.world_model.proofs.Basics.{◌≡◌, sym, subst, ap, ◌∙◌, ◌+◌, ◌≤◌, List, same_Some, arith}
-use Rattle.world_model.proofs.Terms.{file_sum, World, Begun, whole_volume, ReelHoldsJust, CountedReels, CountedSums, PlainEntry, label, numbered, opening, AreHeld, ReelHolds, AreLaid, AreNamed, AreWritersLast, IsNotReopened, AreLabelled, EachCountHasAttempt, AreTold, AreNotReopened, ReelsNotReopened, LabelledReels}
+use Rattle.world_model.proofs.Terms.{IsWorldKept, file_sum, World, Begun, whole_volume, ReelHoldsJust, CountedReels, CountedSums, PlainEntry, label, numbered, opening, AreHeld, ReelHolds, AreLaid, AreNamed, AreWritersLast, IsNotReopened, AreLabelled, EachCountHasAttempt, AreTold, AreNotReopened, ReelsNotReopened, LabelledReels}
 use Rattle.world_model.proofs.Booked.{among_at}
 use Rattle.world_model.proofs.LabelledNames.{stands_somewhere}
 use Rattle.world_model.proofs.NotReopenedAlone.{not_reopened_alone}
@@ -40,14 +40,15 @@ counted_reels w held laid named writers told labelled earned spares x among =
       whole = λ not_reopened. (subst (ReelHolds w.server x.reel) (just not_reopened on.0 on.1) on.1, just not_reopened);
     }
 
-pub reels_not_reopened : (w : World) → AreTold w → AreWritersLast w → AreNotReopened w → ReelsNotReopened w
-reels_not_reopened w told writers spares x y counted among not_reopened its since = not_reopened_alone w x told writers spares.late spares.stopped counted not_reopened y among its since
+pub reels_not_reopened : (w : World) → IsWorldKept w → ReelsNotReopened w
+reels_not_reopened w kept x y counted among not_reopened its since =
+    not_reopened_alone w x kept.told kept.writers kept.not_reopened.late kept.not_reopened.stopped counted not_reopened y among its since
 
-pub labelled_reels : (w : World) → AreHeld w.server → AreLaid w.server → AreNamed w → AreLabelled w → LabelledReels w
-labelled_reels w held laid named labelled k d reel has label quiet =
-    let a = labelled k has.0 d has.1 has.2 label in
+pub labelled_reels : (w : World) → IsWorldKept w → LabelledReels w
+labelled_reels w kept k d reel has label quiet =
+    let a = kept.labelled k has.0 d has.1 has.2 label in
     let wrote = a.2 reel quiet in
-    let on = stands_somewhere w.server reel held laid (named.opened (opening k reel) (among_at w.opens quiet.1.0 (opening k reel) quiet.1.1)) in
+    let on = stands_somewhere w.server reel kept.held kept.laid (kept.once.opened (opening k reel) (among_at w.opens quiet.1.0 (opening k reel) quiet.1.1)) in
     record {
       begun = a.0;
       begun_as = a.1;

@@ -1,10 +1,8 @@
 -- Where reels lie, whatever happens.
-use Rattle.world_model.proofs.Basics.{◌≡◌, ◌≢◌, ◌⊎◌, ℕ, zero, suc, ◌<◌, Bool, cond, List, [], ◌∷◌, ◌++◌, length, take, drop, Option, Some, None, refl, sym, ap, subst, ◌∙◌, inl, inr, arith, slice_get, slice_set, slice_index_or, option_and_then, option_map, find, cons_option, remove_key, bytes_eq, eqb_tells, get_or-set_same, get_or-set_other, same_Some, slice_get_within, get_or_from_slice_get}
-use Rattle.world_model.proofs.Terms.{held, entries_of, TapeLibrary, KeptReel, kept_reel, ReelSlot, Drive, drive_with, drive_at, with_first, first_reel, waiting_reel, after_latch, picked, left, slot_named, without, ServerState, server, ServerConnection, side, PlainSession, session_view, closed_library, Idle, Offline, Online, drive_in, with_holder, World, numbered, with_numbered, side_of, with_side, AreThere, IsFirstAway, online_drive_in, IsOnlineAt, AreHeld, AreLaid}
-use Rattle.world_model.proofs.Ground.{set_other, with_here, with_twice, use_of, Comes, stays, closes, opens, moves, comes_serves, ServerMove, leaves, reads, arranges, server_after, Move, moved, server_move, server_moved, Sits, sits_here, sits_other, sits_is, joined_is, joined_was, KeepsHeldOver, held_ended_by, held_all_ended_by, free_then}
+use Rattle.world_model.proofs.Basics.{◌≡◌, ◌≢◌, ◌⊎◌, ℕ, zero, suc, ◌<◌, Bool, cond, List, [], ◌∷◌, ◌++◌, length, take, drop, Option, Some, None, refl, sym, ap, subst, ◌∙◌, inl, inr, arith, slice_get, slice_set, slice_index_or, option_map, find, cons_option, remove_key, bytes_eq, eqb_tells, get_or-set_same, get_or-set_other, same_Some, slice_get_within, get_or_from_slice_get}
+use Rattle.world_model.proofs.Terms.{Access, PlainReel, held, entries_of, TapeLibrary, KeptReel, kept_reel, ReelSlot, Drive, drive_with, drive_at, with_first, first_reel, waiting_reel, after_latch, picked, left, slot_named, without, ServerState, server, ServerConnection, side, PlainSession, session_view, closed_library, Idle, Online, drive_in, with_holder, World, numbered, with_numbered, side_of, AreThere, IsFirstAway, online_drive_in, IsOnlineAt, AreHeld, AreLaid}
+use Rattle.world_model.proofs.Ground.{side_there, set_other, with_here, with_twice, use_of, Comes, stays, closes, opens, moves, comes_serves, ServerMove, leaves, reads, arranges, server_after, Move, moved, server_move, server_moved, Sits, sits_here, sits_other, sits_is, joined_is, joined_was, KeepsHeldOver, held_ended_by, held_all_ended_by, free_then}
 use Rattle.world_model.proofs.ServerMoves.{joins, serves, ends, restarts}
-use Rattle.world_model.proofs.Sides.{side_there}
-use Rattle.world_model.proofs.Terms.{arranged}
 
 -- an online session has its drive open
 pub online_drive : (s : PlainSession) (d : ℕ) → online_drive_in s ≡ Some d → drive_in s ≡ Some d
@@ -33,10 +31,7 @@ now_online h k s o u t d (j, x, at, online) = elim (sits_is h k s o u t j x at) 
 ]
 
 was_online : (h : ServerState) (k : ℕ) (s : ServerConnection) → side_of h k ≡ Some s → (d : ℕ) → IsOnlineAt h d → (online_drive_in s.session ≡ Some d) ⊎ IsOnlineElse h k d
-was_online h k s was d (j, x, at, online) = elim (eqb_tells j k) [
-  | inl (equal, same) ↦ inl (ap (λ (z : ServerConnection). online_drive_in z.session) (same_Some s x (sym was ∙ ap (side_of h) (sym same) ∙ at)) ∙ online)
-  | inr (unequal, other) ↦ inr (j, other, (x, at, online))
-]
+was_online h k s was d given = grind (arith, same_Some)
 
 pub else_stays : (h : ServerState) (k : ℕ) (s : ServerConnection) (o : Option ServerConnection) (u : ServerState) → Sits h k s o u → (d : ℕ) → IsOnlineElse h k d → IsOnlineAt u d
 else_stays h k s o u t d (j, other, (x, at, online)) = (j, x, sits_other h k j s o u t other ∙ at, online)
@@ -60,11 +55,7 @@ apart h u k s x t b d (j, other, (y, at, has)) drive =
 -- nor at a drive that has no holder once what a session had open is laid back
 free_from : (o : Option ℕ) (holders : List ℕ) (k j d : ℕ) → slice_get (with_holder o 0 holders) d ≡ Some 0 → slice_get holders d ≡ Some (suc j)
     → ((e : ℕ) → o ≡ Some e → slice_get holders e ≡ Some k) → suc j ≡ k
-free_from None holders k j d free holder own = let clash : 0 ≡ suc j = same_Some 0 (suc j) (sym free ∙ holder) in absurd (omega (arith, clash))
-free_from (Some e) holders k j d free holder own = elim (eqb_tells d e) [
-  | inl (equal, same) ↦ same_Some (suc j) k (sym holder ∙ ap (slice_get holders) same ∙ own e refl)
-  | inr (unequal, other) ↦ (let clash : 0 ≡ suc j = same_Some 0 (suc j) (sym free ∙ set_other holders e d 0 other ∙ holder) in absurd (omega (arith, clash)))
-]
+free_from o holders k j d free holder own = grind (arith, same_Some, set_other)
 
 alone_free : (h : ServerState) (k : ℕ) (s : ServerConnection) (d : ℕ) → AreHeld h → side_of h k ≡ Some s → slice_get (with_holder (drive_in s.session) 0 h.holders) d ≡ Some 0
     → IsOnlineElse h k d → ⊥
@@ -85,9 +76,6 @@ behind_first stack given = grind arith
 there_more : (xs ys : List (ReelSlot KeptReel)) → AreThere xs → AreThere ys → AreThere (xs ++ ys)
 there_more [] ys one two = two
 there_more (x ∷ xs) ys (here, one) two = (here, there_more xs ys one two)
-
-taken_there : (reel : KeptReel) (stack : List (ReelSlot KeptReel)) → AreThere (with_first (Some reel) (take 1 stack))
-taken_there reel stack = grind arith
 
 -- the rack of a drive, where one was changed
 pub drive_same : (drives : List (Drive KeptReel)) (e : ℕ) (r d : Drive KeptReel) → e < length drives → slice_index_or (slice_set drives e r) e d ≡ r
@@ -116,14 +104,8 @@ other_drive h k s o u e d r t other = ap (λ l. slice_index_or l d (drive_with [
 
 latched_shift : (h : ServerState) (k : ℕ) (s : ServerConnection) (o : Option ServerConnection) (u : ServerState) (e : ℕ) (r : Drive KeptReel) → Shifts h k s o u e r → AreLaid h
     → (d : ℕ) → IsOnlineAt u d → IsFirstAway (drive_at u.library d).stack
-latched_shift h k s o u e r t l d on = elim (now_online h k s o u t.sits d on) [
-  | inl own ↦ (
-      let same = t.after d own in
-      subst (λ (x : Drive KeptReel). IsFirstAway x.stack) (sym (ap (drive_at u.library) same ∙ here_drive h k s o u e r t)) (t.away (own ∙ ap Some same)))
-  | inr elsewhere ↦ (
-      let other : d ≢ e = λ same. t.alone (subst (IsOnlineElse h k) same elsewhere) in
-      subst (λ (x : Drive KeptReel). IsFirstAway x.stack) (sym (other_drive h k s o u e d r t other)) (l.latched d (else_was h k d elsewhere)))
-]
+latched_shift h k s o u e r t l d on =
+    grind (arith, now_online h k s o u t.sits d on, here_drive h k s o u e r t, other_drive h k s o u e d r t, t.after d, t.alone, else_was h k d, l.latched d)
 
 lying_shift : (h : ServerState) (k : ℕ) (s : ServerConnection) (o : Option ServerConnection) (u : ServerState) (e : ℕ) (r : Drive KeptReel) → Shifts h k s o u e r → AreLaid h
     → (d : ℕ) → (IsOnlineAt u d → ⊥) → AreThere (drive_at u.library d).stack
@@ -154,10 +136,7 @@ turn_laid : (h : ServerState) (k : ℕ) (s : ServerConnection) (o : Option Serve
 turn_laid h k s o u t library same l = still_laid h u library (λ d on. elim (now_online h k s o u t d on) [
   | inl own ↦ (k, s, t.was, sym same ∙ own)
   | inr elsewhere ↦ else_was h k d elsewhere
-]) (λ d on. elim (was_online h k s t.was d on) [
-  | inl own ↦ own_there h k s o u t d (same ∙ own)
-  | inr elsewhere ↦ else_stays h k s o u t d elsewhere
-]) l
+]) (λ d on. grind (arith, was_online h k s t.was d on, own_there h k s o u t d, else_stays h k s o u t d)) l
 
 -- the place of a drive that a session has open
 pub drive_within : (h : ServerState) (k : ℕ) (s : ServerConnection) (d : ℕ) → AreHeld h → side_of h k ≡ Some s → drive_in s.session ≡ Some d → d < length h.library.drives
@@ -165,62 +144,34 @@ drive_within h k s d a was own =
     let places = a.places in omega (arith, slice_get_within h.holders d k (a.opened k d s was own), places)
 
 -- what a session had open is laid back
+back_laid : (h : ServerState) (k : ℕ) (s : ServerConnection) (o : Option ServerConnection) (u : ServerState) (d : ℕ) (access : Access) (reel : PlainReel)
+    → s.session ≡ Online d access reel
+    → Sits h k s o u → u.library ≡ closed_library h.library (Online d access reel) → online_of o ≡ None → AreHeld h → AreLaid h → AreLaid u
+back_laid h k s o u d access reel is t library off a l =
+    let within = drive_within h k s d a t.was (ap drive_in is) in
+    let alone = alone_at h k s d a t.was (ap drive_in is) in
+    let away = l.latched d (k, s, t.was, ap online_drive_in is) in
+    shift_laid h k s o u d (drive_with (drive_at h.library d).name (with_first (Some (kept_reel (entries_of reel.tape) reel.capacity)) (drive_at h.library d).stack))
+    (grind (arith, online_else, laid_first)) l
+
 closed_laid : (h : ServerState) (k : ℕ) (s : ServerConnection) (o : Option ServerConnection) (u : ServerState) (session : PlainSession) → s.session ≡ session → Sits h k s o u → u.library ≡ closed_library h.library session
     → online_of o ≡ None → AreHeld h → AreLaid h → AreLaid u
-closed_laid h k s o u Idle is t library off a l = turn_laid h k s o u t library (off ∙ sym (ap online_drive_in is)) l
-closed_laid h k s o u (Offline drive access) is t library off a l = turn_laid h k s o u t library (off ∙ sym (ap online_drive_in is)) l
-closed_laid h k s o u (Online drive access reel) is t library off a l =
-    let own : drive_in s.session ≡ Some drive = ap drive_in is in
-    let reel' = kept_reel (entries_of reel.tape) reel.capacity in
-    shift_laid h k s o u drive (drive_with (drive_at h.library drive).name (with_first (Some reel') (drive_at h.library drive).stack)) record {
-      sits = t;
-      drives = ap (λ (v : TapeLibrary). v.drives) library;
-      within = drive_within h k s drive a t.was own;
-      alone = λ elsewhere. alone_at h k s drive a t.was own (online_else h k drive elsewhere);
-      before = λ d at. same_Some d drive (sym at ∙ ap online_drive_in is);
-      after = λ d at. (let clash = sym off ∙ at in absurd cc);
-      away = λ at. (let clash = sym off ∙ at in absurd cc);
-      there = λ no. laid_first reel' (drive_at h.library drive).stack (l.latched drive (k, s, t.was, ap online_drive_in is));
-      bin = subst (λ (v : TapeLibrary). AreThere v.bin) (sym library) l.bin;
-    } l
+closed_laid h k s o u (Online drive access reel) is t library off a l = back_laid h k s o u drive access reel is t library off a l
+closed_laid h k s o u session is t library off a l = turn_laid h k s o u t library (off ∙ sym (ap online_drive_in is)) l
 
 -- the first reel of a free drive is latched
 open_laid : (h : ServerState) (k : ℕ) (s x : ServerConnection) (u : ServerState) (d : ℕ) (first : KeptReel) → Sits h k s (Some x) u → online_drive_in s.session ≡ None → online_drive_in x.session ≡ Some d
     → waiting_reel h.library d ≡ Some first → u.library ≡ after_latch h.library d → d < length h.library.drives → (IsOnlineElse h k d → ⊥) → AreLaid h → AreLaid u
 open_laid h k s x u d first t off on waits library within alone l =
-    let lying = l.lying d (λ at. elim (was_online h k s t.was d at) [
-      | inl own ↦ (let clash = sym off ∙ own in absurd cc)
-      | inr elsewhere ↦ alone elsewhere
-    ]) in
-    shift_laid h k s (Some x) u d (drive_with (drive_at h.library d).name (with_first None (drive_at h.library d).stack)) record {
-      sits = t;
-      drives = ap (λ (v : TapeLibrary). v.drives) library;
-      within = within;
-      alone = alone;
-      before = λ e at. (let clash = sym off ∙ at in absurd cc);
-      after = λ e at. same_Some e d (sym at ∙ on);
-      away = λ at. latched_first (drive_at h.library d).stack first waits lying;
-      there = λ no. absurd (no on);
-      bin = subst (λ (v : TapeLibrary). AreThere v.bin) (sym library) l.bin;
-    } l
+    shift_laid h k s (Some x) u d (drive_with (drive_at h.library d).name (with_first None (drive_at h.library d).stack)) (grind (arith, was_online, latched_first)) l
 
 -- the latched reel lies in the bin
 moved_laid : (h : ServerState) (k : ℕ) (s x : ServerConnection) (u : ServerState) (d : ℕ) (reel : KeptReel) → Sits h k s (Some x) u → online_drive_in s.session ≡ Some d → online_drive_in x.session ≡ None
     → u.library.drives ≡ slice_set h.library.drives d (drive_with (drive_at h.library d).name (drop 1 (drive_at h.library d).stack))
     → u.library.bin ≡ h.library.bin ++ with_first (Some reel) (take 1 (drive_at h.library d).stack) → AreHeld h → AreLaid h → AreLaid u
 moved_laid h k s x u d reel t on off drives bin a l =
-    let own = online_drive s.session d on in
-    shift_laid h k s (Some x) u d (drive_with (drive_at h.library d).name (drop 1 (drive_at h.library d).stack)) record {
-      sits = t;
-      drives = drives;
-      within = drive_within h k s d a t.was own;
-      alone = λ elsewhere. alone_at h k s d a t.was own (online_else h k d elsewhere);
-      before = λ e at. same_Some e d (sym at ∙ on);
-      after = λ e at. (let clash = sym off ∙ at in absurd cc);
-      away = λ at. (let clash = sym off ∙ at in absurd cc);
-      there = λ no. behind_first (drive_at h.library d).stack (l.latched d (k, s, t.was, on));
-      bin = subst AreThere (sym bin) (there_more h.library.bin _ l.bin (taken_there reel (drive_at h.library d).stack));
-    } l
+    shift_laid h k s (Some x) u d (drive_with (drive_at h.library d).name (drop 1 (drive_at h.library d).stack))
+    (grind (arith, drive_within, alone_at, online_else, online_drive, behind_first, there_more)) l
 
 -- A hall between a close and an open: the session has nothing open.
 abbrev idle_server : ServerState → ℕ → ServerConnection → ServerState
@@ -228,12 +179,6 @@ idle_server h k s = server (closed_library h.library s.session) h.holders (with_
 
 idle_laid : (h : ServerState) (k : ℕ) (s : ServerConnection) → side_of h k ≡ Some s → AreHeld h → AreLaid h → AreLaid (idle_server h k s)
 idle_laid h k s was a l = closed_laid h k s (Some (side s.reached Idle)) (idle_server h k s) s.session refl record { was = was; sides = refl } refl refl a l
-
-from_idle : (h : ServerState) (k : ℕ) (s x : ServerConnection) (u : ServerState) → Sits h k s (Some x) u → Sits (idle_server h k s) k (side s.reached Idle) (Some x) u
-from_idle h k s x u t = record {
-  was = ap (option_and_then (λ y. y)) (with_here h.sides k (Some s) (Some (side s.reached Idle)) (side_there h k s t.was));
-  sides = t.sides ∙ sym (with_twice h.sides k (Some (side s.reached Idle)) (Some x));
-}
 
 -- no other is online there in between
 idle_else : (h : ServerState) (k : ℕ) (s : ServerConnection) (d : ℕ) → side_of h k ≡ Some s → IsOnlineElse (idle_server h k s) k d → IsOnlineElse h k d
@@ -254,7 +199,8 @@ comes_laid : (h : ServerState) (k : ℕ) (s x : ServerConnection) (u : ServerSta
 comes_laid h k s x u opened t a l none (stays library session drive same) = turn_laid h k s (Some x) u t library (use_online x.session s.session session) l
 comes_laid h k s x u opened t a l none (closes library session same) = closed_laid h k s (Some x) u s.session refl t library (ap online_drive_in session) a l
 comes_laid h k s x u opened t a l none (opens drive access reel first within waits free library session new) =
-    open_laid (idle_server h k s) k (side s.reached Idle) x u drive first (from_idle h k s x u t) refl (ap online_drive_in session) waits library within
+    open_laid (idle_server h k s) k (side s.reached Idle) x u drive first (grind (arith, with_here, side_there, with_twice)) refl (ap online_drive_in session)
+    waits library within
     (λ elsewhere. alone_free h k s drive a t.was (none drive (ap drive_in session)) (idle_else h k s drive t.was elsewhere)) (idle_laid h k s t.was a l)
 comes_laid h k s x u opened t a l none (moves drive access reel online library session same) =
     moved_laid h k s x u drive (kept_reel (entries_of reel.tape) reel.capacity) t (ap online_drive_in online) (ap online_drive_in session) (ap (λ (v : TapeLibrary). v.drives) library)
@@ -263,13 +209,6 @@ comes_laid h k s x u opened t a l none (moves drive access reel online library s
 -- a side that is over
 over_laid : KeepsHeldOver AreLaid
 over_laid h k s is a l = closed_laid h k s None _ s.session refl record { was = is; sides = refl } refl refl a l
-
--- a side more, with nothing open
-joined_laid : (h : ServerState) → AreLaid h → AreLaid (with_side h)
-joined_laid h l = still_laid h (with_side h) refl (λ d (k, s, at, on). elim (joined_is h k s at) [
-  | inl before ↦ (k, s, before, on)
-  | inr new ↦ (let clash : online_drive_in Idle ≡ Some d = ap (λ (z : ServerConnection). online_drive_in z.session) new ∙ on in absurd cc)
-]) (λ d (k, s, at, on). (k, s, joined_was h k s at, on)) l
 
 -- an operator's order: reels are picked from those that lie there
 found_there : (test : ReelSlot KeptReel → Bool) (b : Bool) (x : ReelSlot KeptReel) (xs : List (ReelSlot KeptReel)) → ((reel : KeptReel) × (x.reel ≡ Some reel))
@@ -309,13 +248,9 @@ free_off h d a free (suc k, x, at, on) =
     let holder = a.opened (suc k) d x at (online_drive x.session d on) in
     let clash : 0 ≡ suc k = sym free ∙ get_or_from_slice_get h.holders d (suc k) 0 holder in omega (arith, clash)
 
-arranged_laid : (h : ServerState) (d : ℕ) (names : List (List ℕ)) → AreHeld h → slice_index_or h.holders d 0 ≡ 0 → d < length h.library.drives → AreLaid h
-    → AreLaid (server (arranged h.library d names) h.holders h.sides)
-arranged_laid h d names a free within l = grind (arith, free_off, there_more, drive_same, drive_other, picked_there, left_there)
-
 server_laid : (h : ServerState) (m : ServerMove h) → AreHeld h → AreLaid h → AreLaid (server_after h m)
 server_laid h leaves a l = l
-server_laid h joins a l = joined_laid h l
+server_laid h joins a l = grind (arith, still_laid, joined_is, joined_was)
 server_laid h (reads k s reached live unread) a l = turn_laid h k s (Some (side reached s.session)) _ record { was = live; sides = refl } refl refl l
 server_laid h (serves k s x library holders opened live unread comes held) a l =
     let v = comes_serves h.holders (session_view h.library s.session) (session_view library x.session) opened a.places comes in
@@ -323,7 +258,7 @@ server_laid h (serves k s x library holders opened live unread comes held) a l =
     (λ d drive. free_then h.holders s.session d k (a.opened k d s live) (v.drive d drive)) comes
 server_laid h (ends k) a l = held_ended_by AreLaid over_laid h k a l
 server_laid h restarts a l = held_all_ended_by AreLaid over_laid h (length h.sides) a l
-server_laid h (arranges d names within free) a l = arranged_laid h d names a free within l
+server_laid h (arranges d names within free) a l = grind (arith, free_off, there_more, drive_same, drive_other, picked_there, left_there)
 
 pub laid_moved : (w : World) (m : Move w) → AreHeld w.server → AreLaid w.server → AreLaid (moved w m).server
 laid_moved w m a l = subst AreLaid (sym (server_moved w m)) (server_laid w.server (server_move w m) a l)

@@ -1,7 +1,7 @@
 -- The client stays lawful, whatever happens.
 -- How the counts of the history grow at an event.
 use Rattle.world_model.proofs.Basics.{◌≡◌, ℕ, List, take, Some, refl, subst, inl, same_Some, arith}
-use Rattle.world_model.proofs.Terms.{PlainRun, IsRun, AreVolumes, VolumeCount, IsLawful, StageFits, Standing, standing, FedAt, CutAt, IsOver, stage_after, Answer, Retry, Abandon, Progress, Stage, Ready, ToSend, Waiting, Asking, Open, Block, World, WorldClient, AreBooked, IsClientLawful, PlainEvent, CountsGrow, Happens}
+use Rattle.world_model.proofs.Terms.{PlainRun, IsRun, AreVolumes, VolumeCount, IsLawful, StageFits, Standing, standing, FedAt, CutAt, IsOver, stage_after, Answer, Progress, Stage, Ready, ToSend, Waiting, Asking, Open, Block, World, WorldClient, AreBooked, IsClientLawful, PlainEvent, CountsGrow, Happens}
 use Rattle.world_model.proofs.Ground.{Move, begins, connects, asks, fails, hears, hears_last, sees, Back, gone, comes, back_caller, forgets, gives_up, answers, moved, Goings, drop_front}
 
 -- what calls of a client leave of one that is lawful
@@ -23,8 +23,7 @@ fits_at : (s : Standing) (stage : Stage) → IsLawful s → s.stage ≡ stage �
 fits_at s stage l is = subst (StageFits s.run s.counts) is l.stage
 
 answer_fits : (s : Standing) (answer : Answer) → StageFits s.run s.counts Asking → StageFits s.run s.counts (stage_after answer)
-answer_fits s Retry fits = fits
-answer_fits s Abandon fits = fits
+answer_fits s answer fits = grind arith
 
 -- a client that comes back with what is kept
 back_lawful : ((run : PlainRun) (counts : List VolumeCount) (at : Standing) → IsRun run → AreVolumes run 1 0 counts → IsOver run counts at → IsLawful at)

@@ -1,6 +1,6 @@
 -- How an event moves the world: one row for each way in which it goes on. Each point of what stays so is proved from these rows.
-use Rattle.world_model.proofs.Basics.{◌≡◌, ◌⊎◌, IsTrue, ℕ, ◌*◌, ◌<◌, ◌≤◌, Bool, true, false, List, [], ◌++◌, length, take, drop, map, Option, Some, None, Ok, refl, sym, ap, subst, ◌∙◌, inl, inr, arith, slice_index_or, eqb_tells, length-map, length-append, same_Some}
-use Rattle.world_model.proofs.Terms.{PlainRequest, ParsesAs, RequestHeld, Unread, ReplyHeld, Trouble, TapeLibrary, IsDriveNamed, arranged, server, ServerConnection, side, session_view, PlainRun, IsRun, HasFedAt, unanswered, Standing, standing, FedAt, CutAt, IsOver, stage_after, AttemptFault, Answer, Progress, Ready, ToSend, Waiting, Asking, Finished, Step, Block, World, Connection, AttemptState, Begun, WorldClient, Count, Kept, numbered, PlainEvent, StartRun, Connect, Send, ToServer, Serve, ToClient, Cut, EndAtServer, EndAtClient, ServerRestart, ClientRestart, Respond, Arrange, Stranger, Says, Enter, Save, changed, side_of, connection_of, without_peer, sent_on, opened_reel, with_no_failure, given_up, joined, restarted, ended_at, counts_of, after_client_call, is_in_attempt, NoRun, IsRunEntered, MayBeKept, ServerTurn, Happens, Sends, Finds, Hears, SeesEnd, IsPushed, begun, client_connected, is_failing, failed_read, asked, reached_by, carried, forgotten_from, kept_after, ResumesRun, recorded, caller}
+use Rattle.world_model.proofs.Basics.{◌≡◌, ◌⊎◌, IsTrue, ℕ, ◌*◌, ◌<◌, ◌≤◌, Bool, true, false, List, [], ◌++◌, length, take, drop, map, Option, Some, None, Ok, refl, sym, ap, subst, ◌∙◌, inl, inr, arith, slice_index_or, length-map, length-append, same_Some}
+use Rattle.world_model.proofs.Terms.{PlainRequest, ParsesAs, RequestHeld, Unread, ReplyHeld, Trouble, arranged, server, ServerConnection, side, session_view, PlainRun, IsRun, HasFedAt, unanswered, Standing, standing, FedAt, CutAt, IsOver, stage_after, AttemptFault, Answer, Progress, Ready, ToSend, Waiting, Asking, Finished, Step, Block, World, Connection, AttemptState, Begun, WorldClient, Count, Kept, numbered, PlainEvent, StartRun, Connect, Send, ToServer, Serve, ToClient, Cut, EndAtServer, EndAtClient, ServerRestart, ClientRestart, Respond, Arrange, Stranger, Says, Enter, Save, changed, side_of, connection_of, without_peer, sent_on, opened_reel, with_no_failure, given_up, joined, restarted, ended_at, counts_of, after_client_call, is_in_attempt, NoRun, IsRunEntered, MayBeKept, ServerTurn, Happens, Sends, Finds, Hears, SeesEnd, IsPushed, begun, client_connected, failed_read, asked, reached_by, carried, forgotten_from, kept_after, ResumesRun, recorded, caller}
 use Rattle.dump_client.specs.declared.stage.Progress.TheVariants as came
 use Rattle.world_model.proofs.Numbers.{with_here, with_twice, less_or_more, length_changed, numbered_more}
 use Rattle.world_model.proofs.NamedRequests.{step_comes}
@@ -208,9 +208,6 @@ abbrev Moves : World → World → Type 0
 Moves w u = (m : Move w) × (u ≡ moved w m)
 
 -- a read fails in a block alone
-failing_block : (failing : Bool) (step : Step) → is_failing failing step ≡ true → (n : ℕ) × (step ≡ Block n)
-failing_block failing step is = grind arith
-
 sends_moves : (failing : Bool) (w : World) (k : ℕ) (c : WorldClient) (step : Step) (b : Begun) (u : World) → (failing ≡ true → (n : ℕ) × (step ≡ Block n)) → w.caller ≡ Some c
     → c.at.stage ≡ ToSend step → w.own ≡ Some k → numbered w.begun c.number ≡ Some b → Sends failing w k c b.payload step u → Moves w u
 sends_moves true w k c step b u block there stage own mine (reader, is) = let n = block refl in (fails k n.0 c reader there (stage ∙ ap ToSend n.1) own, is)
@@ -298,34 +295,22 @@ back_moves : (w : World) (o : Option Kept) (u : World) → w.kept ≡ o → Resu
 back_moves w None u kept is = forgets_moves w (gone kept) w.own u refl is
 back_moves w (Some z) u kept (b, at, reader, begun, over, is) = forgets_moves w (comes z b at reader kept begun over) w.own u refl is
 
--- one drive has a name
-one_named : (library : TapeLibrary) (name : List ℕ) (d e : ℕ) → IsDriveNamed name library (Some d) → IsDriveNamed name library (Some e) → d ≡ e
-one_named library name d e one other = elim (eqb_tells d e) [
-  | inl (equal, same) ↦ same
-  | inr (unequal, differ) ↦ absurd (elim (less_or_more d e differ) [
-    | inl less ↦ other.2 d less one.1
-    | inr more ↦ one.2 e more other.1
-  ])
-]
-
 -- each event moves the world
 pub happened : (w : World) (event : PlainEvent) (u : World) → Happens w event u → Moves w u
 happened w (StartRun run payload) u ((none, good, long), (reader, is)) = (begins run payload reader none good long, is)
 happened w Connect u (may, (c, there, ready, is)) = (connects c there ready, is)
-happened w (Send failing) u (may, (c, step, k, b, there, stage, own, mine, sends)) =
-    sends_moves (is_failing failing step) w k c step b u (failing_block failing step) there stage own mine sends
+happened w (Send failing) u (may, (c, step, k, b, there, stage, own, mine, sends)) = grind (arith, sends_moves)
 happened w (ToServer k n) u (may, (s, l, reached, live, at, grows, is)) = (reaches k n s l reached live at grows, is)
 happened w (Serve k trouble) u happens = elim (carries w u k trouble happens) [ inl c ↦ (serves (carries_turn w u k trouble c), c.is) | inr is ↦ (ends k, is) ]
 happened w (ToClient k n) u ((x, (there, other), (some, within)), (l, at, heard)) = grind (arith, hears_moves)
 happened w (Cut k) u (may, is) = (cuts k, is)
 happened w (EndAtServer k) u (may, is) = (ends k, is)
-happened w (EndAtClient k) u ((x, (there, other), cut), (l, at, seen)) =
-    sees_moves l.dump w k l u at refl (subst (λ (z : Connection). IsTrue z.other) (same_Some x l (sym there ∙ at)) other) seen
+happened w (EndAtClient k) u ((x, (there, other), cut), (l, at, seen)) = grind (arith, sees_moves, same_Some)
 happened w ServerRestart u (may, is) = (restarts, is)
 happened w ClientRestart u (may, back) = back_moves w w.kept u refl back
 happened w (Respond answer) u (may, (c, reader, there, stage, is)) = (answers c answer reader there stage, is)
 happened w (Arrange drive reels) u ((e, found, free, distinct, piled), (d, named, is)) =
-    (arranges d reels named.0 (subst (λ x. slice_index_or w.server.holders x 0 ≡ 0) (one_named w.server.library drive e d found named) free), is)
+    (arranges d reels named.0 (subst (λ x. slice_index_or w.server.holders x 0 ≡ 0) (grind (arith, less_or_more)) free), is)
 happened w Stranger u (may, is) = (joins, is)
 happened w (Says k bytes) u ((x, (there, other), none), is) = (talks k x (says bytes) there none, is)
 happened w Enter u ((x, at, stage, not_yet), (c, there, is)) =

@@ -1,11 +1,10 @@
 -- The names of reels, whatever happens.
-use Rattle.world_model.proofs.Basics.{◌≡◌, ◌⊎◌, ℕ, ◌+◌, ◌<◌, ◌≤◌, Bool, true, false, not, ◌&&◌, ◌||◌, List, [], ◌∷◌, ◌++◌, length, take, drop, map, flat_map, Option, Some, None, Contains, refl, sym, ap, subst, ◌∙◌, inl, inr, arith, sum_by, list_any, sum_by-append, sum_by-cons, bytes_eq, option_to_list, option_map, append-nil, Contains-push_cases, bytes_eq-Decides}
+use Rattle.world_model.proofs.Basics.{◌≡◌, ◌⊎◌, ℕ, ◌+◌, ◌<◌, ◌≤◌, Bool, true, false, List, [], ◌∷◌, ◌++◌, length, take, drop, map, flat_map, Option, Some, None, Contains, refl, sym, ap, subst, ◌∙◌, inl, inr, arith, sum_by, list_any, sum_by-append, sum_by-cons, bytes_eq, option_to_list, option_map, append-nil, Contains-push_cases, bytes_eq-Decides}
 use Rattle.world_model.proofs.Terms.{entries_of, KeptReel, kept_reel, ReelSlot, slot, Drive, drive_with, TapeLibrary, library, drive_at, slots_in, names_of, names_in, times, with_first, at_first, to_bin, bit, named, times_named, sum_by_with_drive, are_distinct, times_arranged, ServerState, ServerConnection, side, PlainSession, SessionView, session_view, closed_library, Online, drive_in, World, Opening, PlainEvent, side_of, first_name, written_reel, opened_reel, opening, Happens, PlainDriveSpec, AreGoodDrives, blank_drive, first_world, IsFirstAway, online_drive_in, AreHeld, HasReel, AreLaid, SameNames, AreNamed}
 use Rattle.world_model.proofs.Ground.{sits_here, KeepsHeldOver, held_ended_by, held_all_ended_by, Comes, stays, closes, opens, moves, ServerMove, arranges, server_after, Move, moved, server_move, server_moved, happened}
 use Rattle.world_model.proofs.Laid.{online_drive, drive_within}
 use Rattle.world_model.proofs.ServerMoves.{serves, ends, restarts}
 use Rattle.world_model.proofs.Moves as move
-use Rattle.world_model.proofs.Terms.{PlainRequest}
 
 -- and what is taken from it, with what is left
 taken_names : (name : List ℕ) (reel : KeptReel) (stack : List (ReelSlot KeptReel))
@@ -95,12 +94,6 @@ opened_is_reel : (h : ServerState) (k : ℕ) (x : ServerConnection) (reel : List
 opened_is_reel h k x reel live a l is = grind (arith, first_is_reel, drive_within, online_drive)
 
 -- the names and the openings, after an event that made no opening, or one
-same_named : (w u : World) → SameNames w.server.library u.server.library → u.opens ≡ w.opens → AreNamed w → AreNamed u
-same_named w u same made n = record {
-  once = λ name. subst (λ m. m ≤ 1) (sym (same name)) (n.once name);
-  opened = λ o among. subst (λ m. 0 < m) (sym (same o.reel)) (n.opened o (subst (λ l. Contains l o) made among));
-}
-
 served_named : (w u : World) (k : ℕ) (opened : Option (List ℕ)) → SameNames w.server.library u.server.library → u.opens ≡ w.opens ++ option_to_list (option_map (opening k) opened)
     → ((reel : List ℕ) → opened ≡ Some reel → HasReel u.server.library reel) → AreNamed w → AreNamed u
 served_named w u k opened same made new n = record {
@@ -112,9 +105,6 @@ served_named w u k opened same made new n = record {
 }
 
 -- the reel that a request opened is there
-open_reel : (request : PlainRequest) (s : TapeLibrary) (session : PlainSession) (reel : List ℕ) → opened_reel request s session ≡ Some reel → written_reel s session ≡ Some reel
-open_reel request s session reel is = grind arith
-
 pub comes_reel : (holders : List ℕ) (before after : SessionView) (opened : Option (List ℕ)) → Comes holders before after opened → (reel : List ℕ) → opened ≡ Some reel
     → written_reel after.library after.session ≡ Some reel
 comes_reel holders before after opened given reel is = grind arith
@@ -124,42 +114,23 @@ named_moved w (move.serves t) before a l n =
     let u = moved w (move.serves t) in
     served_named w u t.k (opened_reel t.request t.library t.session) (names_moved w (move.serves t) before) refl
     (λ reel new. opened_is_reel u.server t.k (side t.reached t.session) reel (sits_here w.server t.k t.s (Some (side t.reached t.session)) u.server record { was = t.live; sides = refl }) a l
-    (open_reel t.request t.library t.session reel new)) n
-named_moved w m before a l n = same_named w _ (names_moved w m before) refl n
-
-both : (a b : Bool) → (a && b) ≡ true → (a ≡ true) × (b ≡ true)
-both a b is = grind arith
-
-neither : (a b : Bool) → (a || b) ≡ false → (a ≡ false) × (b ≡ false)
-neither a b is = grind arith
-
-turned : (b : Bool) → not b ≡ true → b ≡ false
-turned b is = grind arith
+    (grind arith)) n
+named_moved w m before a l n = served_named w _ 0 None (names_moved w m before) (sym (append-nil w.opens)) (λ reel none. absurd cc) n
 
 -- the names of the first world
 none_times : (name : List ℕ) (names : List (List ℕ)) → list_any (bytes_eq name) names ≡ false → times name names ≡ 0
 none_times name [] none = refl
-none_times name (n ∷ names) none =
-    let parts = neither (bytes_eq name n) (list_any (bytes_eq name) names) none in
-    let one : bit (bytes_eq name n) ≡ 0 = ap bit parts.0 in
-    let rest = none_times name names parts.1 in
-    grind arith
+none_times name (n ∷ names) none = grind (arith, none_times name names)
 
 distinct_if : (name n : List ℕ) (names : List (List ℕ)) (b : Bool) → bytes_eq name n ≡ b → list_any (bytes_eq n) names ≡ false → times name names ≤ 1
     → times name (n ∷ names) ≤ 1
-distinct_if name n names true is apart more =
-    let same : name ≡ n = (bytes_eq-Decides name n).0 is in
-    let rest = ap (λ m. times m names) same ∙ none_times n names apart in
-    let one : bit (bytes_eq name n) ≡ 1 = ap bit is in
-    let all = sum_by-cons (λ m. bit (bytes_eq name m)) n names in
-    omega (arith, one, rest, all)
-distinct_if name n names false is apart more = grind arith
+distinct_if name n names b is apart more =
+    grind (arith, bytes_eq-Decides name n, none_times n names apart, sum_by-cons (λ m. bit (bytes_eq name m)) n names, ap (λ m. times m names))
 
 distinct_once : (names : List (List ℕ)) → are_distinct names ≡ true → (name : List ℕ) → times name names ≤ 1
 distinct_once [] distinct name = omega arith
 distinct_once (n ∷ names) distinct name =
-    let parts = both (not (list_any (bytes_eq n) names)) (are_distinct names) distinct in
-    distinct_if name n names (bytes_eq name n) refl (turned (list_any (bytes_eq n) names) parts.0) (distinct_once names parts.1 name)
+    distinct_if name n names (bytes_eq name n) refl (grind arith) (distinct_once names (grind arith) name)
 
 names_more : (xs ys : List (ReelSlot KeptReel)) → names_of (xs ++ ys) ≡ names_of xs ++ names_of ys
 names_more [] ys = refl

@@ -1,6 +1,6 @@
 -- What one request makes of the reels, and of the reel that its session may write on.
 use Rattle.world_model.proofs.Basics.{◌≡◌, ℕ, ◌<◌, Bool, true, false, List, length, Option, Some, None, Ok, Err, MatchOption, refl, sym, ap, ◌∙◌, arith}
-use Rattle.world_model.proofs.Terms.{PlainRequest, Op, PlainReply, entries_of, Trouble, KeptReel, after_latch, after_offline, waiting_reel, Access, access_of, refused, PlainReel, PlainSession, SessionView, status_of, refusal, closed, closed_library, is_offline, Idle, Offline, Online, drive_in, with_holder, holder_of, TroubledServeStep, TroubledOpenStep, TroubledReelStep, TroubledMoveStep, TroubledOpStep, TroubledDoneStep, written_reel, opened_reel}
+use Rattle.world_model.proofs.Terms.{PlainRequest, Op, PlainReply, entries_of, Trouble, KeptReel, after_latch, after_offline, waiting_reel, Access, access_of, refused, PlainReel, PlainSession, SessionView, status_of, refusal, closed, closed_library, is_offline, Idle, Offline, Online, drive_in, with_holder, holder_of, TroubledServeStep, TroubledOpenStep, TroubledMoveStep, TroubledOpStep, TroubledDoneStep, written_reel, opened_reel}
 use Rattle.rmt_wire.specs.Request.PlainRequest.{Open}
 
 -- the drive that is open with its reel, and for what
@@ -24,10 +24,6 @@ pub data Comes (holders : List ℕ) (before after : SessionView) (opened : Optio
       → after.library ≡ after_offline before.library drive (entries_of reel.tape) reel.capacity → after.session ≡ Offline drive access
       → opened ≡ None → Comes holders before after opened
 
-reel_comes : (holders : List ℕ) (trouble : Trouble) (before : SessionView) (request : PlainRequest) (reply : PlainReply) (after : SessionView) (opened : Option (List ℕ)) → opened ≡ None
-    → TroubledReelStep trouble before request reply after → Comes holders before after opened
-reel_comes holders trouble before request reply after opened none (drive, access, reel, answer, t, online, device, replies, is) = grind arith
-
 move_comes : (holders : List ℕ) (trouble : Trouble) (before : SessionView) (count : ℕ) (reply : PlainReply) (after : SessionView) (opened : Option (List ℕ)) → opened ≡ None
     → TroubledMoveStep trouble before count reply after → Comes holders before after opened
 move_comes holders trouble before count reply after opened none (drive, access, reel, Ok done, online, cause, replies, is) =
@@ -38,7 +34,7 @@ move_comes holders trouble before count reply after opened none (drive, access, 
 op_comes : (holders : List ℕ) (offline : Bool) (trouble : Trouble) (before : SessionView) (op count : ℕ) (reply : PlainReply) (after : SessionView) (opened : Option (List ℕ)) → opened ≡ None
     → TroubledOpStep offline trouble before op count reply after → Comes holders before after opened
 op_comes holders true trouble before op count reply after opened none step = move_comes holders trouble before count reply after opened none step
-op_comes holders false trouble before op count reply after opened none step = reel_comes holders trouble before (Op op count) reply after opened none step
+op_comes holders false trouble before op count reply after opened none step = grind arith
 
 done_comes : (holders : List ℕ) (trouble : Trouble) (before : SessionView) (request : PlainRequest) (reply : PlainReply) (after : SessionView) (opened : Option (List ℕ)) → opened ≡ None
     → TroubledDoneStep trouble before request reply after → Comes holders before after opened
@@ -54,10 +50,7 @@ refused_comes (Some r) A B holders before after opened none some step = some r s
 same_comes : (holders : List ℕ) (before after : SessionView) (opened : Option (List ℕ)) → opened ≡ None → after ≡ before → Comes holders before after opened
 same_comes holders before after opened none is = stays (ap (λ (v : SessionView). v.library) is) (ap (λ (v : SessionView). use_of v.session) is) (ap (λ (v : SessionView). drive_in v.session) is) none
 
--- an open that latches nothing
-not_opened : (holders : List ℕ) (before after : SessionView) → after.library ≡ closed_library before.library before.session → after.session ≡ Idle → Comes holders before after (written_reel after.library after.session)
-not_opened holders before after library idle = closes library idle (ap (written_reel after.library) idle)
-
+-- what an open makes of them
 opens_comes : (trouble : Trouble) (holders : List ℕ) (before : SessionView) (device : List ℕ) (access : Option Access) (reply : PlainReply) (after : SessionView)
     → TroubledOpenStep trouble (with_holder (drive_in before.session) 0 holders) (closed before) device access reply after → Comes holders before after (written_reel after.library after.session)
 opens_comes trouble holders before device (Some access) reply after (Ok opened, asked, (found, named, latch), cause, replies, is) =

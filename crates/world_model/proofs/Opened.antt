@@ -1,40 +1,22 @@
 -- Of a reel that a session may write on the last opening is its own, whatever happens.
 -- Which session wrote on which reel, whatever happens.
-use Rattle.world_model.proofs.Basics.{◌≡◌, ◌≢◌, ◌⊎◌, ℕ, suc, ◌<◌, ◌≤◌, List, [], ◌∷◌, ◌++◌, length, Contains, Option, Some, None, refl, sym, ap, subst, ◌∙◌, inl, inr, arith, slice_index_or, option_to_list, option_map, sum_by, append-nil, length-append, length-set, same_Some, take, drop, eqb_tells, take_all, take-append-le, take-append-drop, length-take-le, Contains-push_cases, Contains-append_left, Contains-append_right}
-use Rattle.world_model.proofs.Terms.{KeptReel, Drive, drive_with, TapeLibrary, drive_at, with_drive_at, slots_in, EachReelOnce, arranged, named, times_named, sum_by_with_drive, ServerState, server, ServerConnection, side, PlainSession, SessionView, session_view, closed_library, Idle, drive_in, World, Opening, with_numbered, side_of, with_side, ended_from, first_name, written_reel, opened_reel, opening, answered, PlainDriveSpec, first_world, AreTidy, AreLaid, IsFirstAway, online_drive_in, AreHeld, IsUnopenedSince, AreOpened, PlainRequest, PlainReply, Trouble, TroubledServeStep, Writing, numbered, writing, reel_written, AreWritersLast, IsAlone, writes}
-use Rattle.world_model.proofs.Ground.{no_number, length_changed, pushed_is, numbered_more, numbered_last, numbered_within, numbered_first, numbered_there, less_or_more, Sits, sits_here, sits_other, sits_is, joined_is, KeepsHeldOver, held_ended_by, held_all_ended_by, Comes, step_comes, ServerMove, reads, arranges, server_after, IsNoRequest, Move, moved, server_move, connections_more, Turn, turned}
-use Rattle.world_model.proofs.Sides.{side_there}
+use Rattle.world_model.proofs.Basics.{◌≡◌, ◌≢◌, ◌⊎◌, ℕ, suc, ◌<◌, ◌≤◌, List, [], ◌∷◌, ◌++◌, length, Contains, Option, Some, None, refl, sym, ap, subst, ◌∙◌, inl, inr, arith, slice_index_or, option_to_list, option_map, append-nil, length-append, length-set, same_Some, take, drop, take_all, take-append-le, take-append-drop, length-take-le, Contains-push_cases, Contains-append_left, Contains-append_right}
+use Rattle.world_model.proofs.Terms.{drive_with, TapeLibrary, drive_at, with_drive_at, slots_in, EachReelOnce, arranged, named, times_named, sum_by_with_drive, ServerState, server, ServerConnection, side, PlainSession, SessionView, session_view, closed_library, drive_in, World, Opening, with_numbered, side_of, ended_from, first_name, written_reel, opened_reel, opening, answered, AreTidy, AreLaid, IsFirstAway, online_drive_in, AreHeld, IsUnopenedSince, AreOpened, PlainRequest, PlainReply, Trouble, TroubledServeStep, Writing, numbered, writing, reel_written, AreWritersLast, IsAlone, writes}
+use Rattle.world_model.proofs.Ground.{side_there, length_changed, pushed_is, numbered_more, numbered_last, numbered_within, numbered_first, numbered_there, less_or_more, Sits, sits_here, sits_other, sits_is, joined_is, KeepsHeldOver, held_ended_by, held_all_ended_by, Comes, step_comes, ServerMove, reads, arranges, server_after, IsNoRequest, Move, moved, server_move, connections_more, Turn, turned}
 use Rattle.world_model.proofs.Laid.{IsOnlineElse, IsOpenElse, online_else, apart, alone_at, drive_other, drive_within, free_off, online_drive}
 use Rattle.world_model.proofs.ServerMoves.{joins, ends, restarts}
-use Rattle.world_model.proofs.Moves.{serves}
-use Rattle.world_model.proofs.Named.{first_times, written_is, opening_is}
+use Rattle.world_model.proofs.Named.{comes_reel, first_times, written_is, opening_is}
 use Rattle.world_model.proofs.LabelledSteps.{WritesOn}
 use Rattle.world_model.proofs.Moves as move
-use Rattle.world_model.proofs.Named.{comes_reel}
-use Rattle.world_model.proofs.NamedRequests.{stays, closes, opens, moves}
 
 -- an opening that was the last of its reel, where one may have been added
 last_stays : (all : List Opening) (k j : ℕ) (reel : List ℕ) (opened : Option (List ℕ)) → ((r : List ℕ) → opened ≡ Some r → r ≢ reel) → IsUnopenedSince all k reel
     → IsUnopenedSince (all ++ option_to_list (option_map (opening j) opened)) k reel
-last_stays all k j reel None differs last = subst (λ l. IsUnopenedSince l k reel) (sym (append-nil all)) last
-last_stays all k j reel (Some r) differs (i, at, behind) = (
-  i,
-  numbered_more all (opening j r ∷ []) i (opening k reel) at,
-  λ m o less there. elim (pushed_is all (opening j r) m o there) [
-    | inl before ↦ behind m o less before
-    | inr (last, new) ↦ (λ same. differs r refl (ap (λ (z : Opening). z.reel) (sym new) ∙ same))
-  ],
-)
+last_stays all k j reel opened differs last = grind (arith, append-nil, numbered_more, pushed_is)
 
 -- one that was added is the last
 last_new : (all : List Opening) (k : ℕ) (reel : List ℕ) → IsUnopenedSince (all ++ opening k reel ∷ []) k reel
-last_new all k reel = (
-  suc (length all),
-  numbered_last all (opening k reel),
-  λ m o less there. (
-      let one : length (opening k reel ∷ []) ≡ 1 = refl in
-      absurd (omega (arith, less, numbered_within (all ++ opening k reel ∷ []) m o there, length-append all (opening k reel ∷ []), one))),
-)
+last_new all k reel = (suc (length all), numbered_last all (opening k reel), grind (arith, numbered_within, length-append))
 
 -- of each session that may write, the last opening of its reel is its own
 abbrev AreLast : ServerState → List Opening → Type 0
@@ -50,14 +32,8 @@ turn_last : (h u : ServerState) (k : ℕ) (s : ServerConnection) (o : Option Ser
     → ((d : ℕ) → IsOnlineElse h k d → (r : List ℕ) → opened ≡ Some r → r ≢ first_name (drive_at u.library d).stack)
     → ((x : ServerConnection) (reel : List ℕ) → o ≡ Some x → written_reel u.library x.session ≡ Some reel → IsUnopenedSince (all ++ option_to_list (option_map (opening k) opened)) k reel)
     → AreLast h all → AreLast u (all ++ option_to_list (option_map (opening k) opened))
-turn_last h u k s o all opened t all_drives differs own l j x reel at written = elim (sits_is h k s o u t j x at) [
-  | inl (same, mine) ↦ subst (λ m. IsUnopenedSince (all ++ option_to_list (option_map (opening k) opened)) m reel) (sym same) (own x reel mine written)
-  | inr (other, was) ↦
-      let w = written_is u.library x.session reel written in
-      let elsewhere : IsOnlineElse h k w.0 = (j, other, (x, was, w.1)) in
-      let before : written_reel h.library x.session ≡ Some reel = sym (written_library u.library h.library x.session w.0 w.1 (all_drives w.0 elsewhere)) ∙ written in
-      last_stays all j k reel opened (λ r is same. differs w.0 elsewhere r is (same ∙ sym w.2)) (l j x reel was before)
-]
+turn_last h u k s o all opened t all_drives differs own l j x reel at written =
+    grind (arith, sits_is h k s o u t j x at, written_is u.library x.session reel written, written_library, last_stays, own x reel, l j x reel)
 
 -- the same where nothing was opened
 quiet_last : (h u : ServerState) (k : ℕ) (s : ServerConnection) (o : Option ServerConnection) (all : List Opening) → Sits h k s o u
@@ -76,16 +52,7 @@ closed_else h k s was a session is d elsewhere = grind (arith, drive_other, alon
 pub comes_else : (holders : List ℕ) (h : ServerState) (k : ℕ) (s : ServerConnection) (after : SessionView) (opened : Option (List ℕ)) → side_of h k ≡ Some s → AreHeld h
     → ((d : ℕ) → IsOpenElse h k d → drive_in after.session ≡ Some d → ⊥) → Comes holders (session_view h.library s.session) after opened
     → (d : ℕ) → IsOpenElse h k d → drive_at after.library d ≡ drive_at h.library d
-comes_else holders h k s after opened was a apart (stays library session drive none) d elsewhere = ap (λ (v : TapeLibrary). drive_at v d) library
-comes_else holders h k s after opened was a apart (closes library session none) d elsewhere =
-    ap (λ (v : TapeLibrary). drive_at v d) library ∙ closed_else h k s was a s.session refl d elsewhere
-comes_else holders h k s after opened was a apart (opens drive access reel first within waits free library session new) d elsewhere =
-    ap (λ (v : TapeLibrary). drive_at v d) library
-    ∙ drive_other (closed_library h.library s.session).drives drive d _ (drive_with [] []) (λ same. apart d elsewhere (ap drive_in session ∙ ap Some (sym same)))
-    ∙ closed_else h k s was a s.session refl d elsewhere
-comes_else holders h k s after opened was a apart (moves drive access reel online library session none) d elsewhere =
-    ap (λ (v : TapeLibrary). drive_at v d) library
-    ∙ drive_other h.library.drives drive d _ (drive_with [] []) (λ same. alone_at h k s drive a was (ap drive_in online) (subst (IsOpenElse h k) same elsewhere))
+comes_else holders h k s after opened was a apart given d elsewhere = grind (arith, closed_else, drive_other, alone_at)
 
 -- what the session itself may write on then, it could before, or it was opened
 pub comes_own : (holders : List ℕ) (before after : SessionView) (opened : Option (List ℕ)) (reel : List ℕ) → Comes holders before after opened → written_reel after.library after.session ≡ Some reel
@@ -98,13 +65,10 @@ pub names_differ : (s : TapeLibrary) (d e : ℕ) → EachReelOnce s → d ≢ e 
 names_differ s d e once other here away there gone same =
     let name = first_name (drive_at s d).stack in
     let t = with_drive_at s d (drive_with [] []) in
-    let still : drive_at t e ≡ drive_at s e = drive_other s.drives d e (drive_with [] []) (drive_with [] []) (λ is. other (sym is)) in
     let two = sum_by_with_drive (named name) t e (drive_with [] []) (let many = length-set s.drives d (drive_with [] []) in omega (arith, there, many)) in
-    let its : sum_by (named name) (drive_at t e).stack ≡ sum_by (named name) (drive_at s e).stack = ap (λ (r : Drive KeptReel). sum_by (named name) r.stack) still in
-    let second : 0 < sum_by (named name) (drive_at s e).stack
-    = subst (λ n. 0 < sum_by (named n) (drive_at s e).stack) (sym same) (first_times (drive_at s e).stack gone) in
+    let one = first_times (drive_at s d).stack away in
     let all = times_named name (slots_in s) in
-    omega (arith, sum_by_with_drive (named name) s d (drive_with [] []) here, two, its, first_times (drive_at s d).stack away, second, all, once name)
+    grind (arith, sum_by_with_drive (named name) s d (drive_with [] []) here, first_times (drive_at s e).stack gone, drive_other, once name)
 
 -- a side that is over
 over_last : (all : List Opening) → KeepsHeldOver (λ h. AreLast h all)
@@ -112,20 +76,11 @@ over_last all h k s is a l =
     quiet_last h (ended_from h k (Some s)) k s None all record { was = is; sides = refl }
     (λ d elsewhere. closed_else h k s is a s.session refl d (online_else h k d elsewhere)) (λ x reel none written. absurd cc) l
 
--- a side more, with nothing open
-joined_last : (h : ServerState) (all : List Opening) → AreLast h all → AreLast (with_side h) all
-joined_last h all l k s reel at written = elim (joined_is h k s at) [
-  | inl before ↦ l k s reel before written
-  | inr new ↦ (let clash : written_reel h.library Idle ≡ Some reel = ap (λ (z : ServerConnection). written_reel h.library z.session) new ∙ written in absurd cc)
-]
-
 -- an operator's order
 arranged_last : (h : ServerState) (d : ℕ) (names : List (List ℕ)) (all : List Opening) → AreHeld h → slice_index_or h.holders d 0 ≡ 0 → AreLast h all
     → AreLast (server (arranged h.library d names) h.holders h.sides) all
 arranged_last h d names all a free l k s reel at written =
-    let w = written_is (arranged h.library d names) s.session reel written in
-    let other : w.0 ≢ d = λ same. free_off h d a free (k, s, at, w.1 ∙ ap Some same) in
-    l k s reel at (sym (written_library (arranged h.library d names) h.library s.session w.0 w.1 (drive_other h.library.drives d w.0 _ (drive_with [] []) other)) ∙ written)
+    grind (arith, written_is (arranged h.library d names) s.session reel written, free_off h d a free, written_library, drive_other, l k s reel at)
 
 -- one request of a session
 served_last : (holders : List ℕ) (h u : ServerState) (k : ℕ) (s x : ServerConnection) (all : List Opening) (opened : Option (List ℕ)) → Sits h k s (Some x) u → Comes holders (session_view h.library s.session) (session_view u.library x.session) opened
@@ -150,26 +105,16 @@ served_last holders h u k s x all opened t comes a b laid once l =
     l
 
 -- what an event makes of the openings
-same_there : (w u : World) → u.opens ≡ w.opens → length w.connections ≤ length u.connections → AreOpened w → (o : Opening) → Contains u.opens o
-    → (1 ≤ o.connection) × (o.connection ≤ length u.connections)
-same_there w u made more n o among =
-    let before = n.there o (subst (λ l. Contains l o) made among) in
-    (before.0, (let few = before.1 in omega (arith, few, more)))
-
 served_there : (w u : World) (k : ℕ) (s : ServerConnection) (opened : Option (List ℕ)) → side_of w.server k ≡ Some s → u.opens ≡ w.opens ++ option_to_list (option_map (opening k) opened)
     → length u.connections ≡ length w.connections → AreTidy w → AreOpened w → (o : Opening) → Contains u.opens o → (1 ≤ o.connection) × (o.connection ≤ length u.connections)
-served_there w u k s opened live made connections t n o among = elim (opening_is w.opens k opened o (subst (λ l. Contains l o) made among)) [
-  | inl before ↦ (let was = n.there o before in (was.0, (let few = was.1 in omega (arith, few, connections))))
-  | inr (reel, is, its) ↦ (
-      let member = side_there w.server k s live in
-      let first = numbered_first w.server.sides k (Some s) member in
-      let same : o.connection ≡ k = ap (λ (z : Opening). z.connection) its in
-      (omega (arith, first, same), omega (arith, numbered_within w.server.sides k (Some s) member, t.paired, connections, same)))
-]
+served_there w u k s opened live made connections t n o among =
+    let first = numbered_first w.server.sides k (Some s) (side_there w.server k s live) in
+    let last = numbered_within w.server.sides k (Some s) (side_there w.server k s live) in
+    grind (arith, opening_is w.opens k opened o (subst (λ l. Contains l o) made among), n.there o, t.paired)
 
 -- each event
 server_last : (h : ServerState) (m : ServerMove h) (all : List Opening) → IsNoRequest h m → AreHeld h → AreLast h all → AreLast (server_after h m) all
-server_last h joins all none a l = joined_last h all l
+server_last h joins all none a l = grind (arith, joined_is)
 server_last h (reads k s reached live unread) all none a l =
     quiet_last h (server h.library h.holders (with_numbered h.sides k (Some (side reached s.session)))) k s (Some (side reached s.session)) all record { was = live; sides = refl }
     (λ d elsewhere. refl)
@@ -190,15 +135,8 @@ opened_moved w (move.serves t) tidy a b l once n =
           (step_comes t.trouble w.server.holders (session_view w.server.library t.s.session) t.request t.reply (session_view t.library t.session) t.served.step) a b l once n.last;
     }
 opened_moved w m tidy a b l once n = record {
-  there = same_there w (moved w m) refl (connections_more w m) n;
+  there = λ o among. (let before = n.there o among in let few = before.1 in (before.0, omega (arith, few, connections_more w m)));
   last = server_last w.server (server_move w m) w.opens tt a n.last;
-}
-
--- no side is there in the first world
-pub first_opened : (drives : List PlainDriveSpec) → AreOpened (first_world drives)
-first_opened drives = record {
-  there = λ o (k, within, is). absurd (omega (arith, within));
-  last = λ k s reel at written. absurd (no_number k (Some s) (side_there (first_world drives).server k s at));
 }
 
 write_stays : (trouble : Trouble) (holders : List ℕ) (before : SessionView) (request : PlainRequest) (reply : PlainReply) (after : SessionView) (name : List ℕ)
@@ -236,66 +174,42 @@ writing_there w v name writes =
 -- The reel of a writing was opened last by its connection, also where one more was opened.
 served_writers : (w : World) (v : Turn w) → AreOpened w → AreWritersLast w → AreWritersLast (turned w v)
 served_writers w v opened writers x among =
+    let all = (turned w v).opens in
+    let more : length w.opens ≤ length all
+    = (let parts = length-append w.opens (option_to_list (option_map (opening v.k) (opened_reel v.request v.library v.session))) in omega (arith, parts)) in
     elim (writing_is w.writings v.k (length w.opens) (reel_written v.request v.library v.session) x among) [
-      | inl before ↦ old before
-      | inr (reel, is, new) ↦ subst (λ y. Holds y) (sym new) (now reel is)
+      | inl before ↦
+          let p = writers x before in
+          (omega (arith, p.0, more), subst (λ os. IsUnopenedSince os x.connection x.reel) (sym (take-append-le x.after w.opens _ p.0)) p.1)
+      | inr (reel, is, new) ↦
+          let was = was_open v.trouble w.server.holders (session_view w.server.library v.s.session) v.request v.reply
+          (session_view v.library v.session) reel v.served.step is in
+          subst (λ (y : Writing). (y.after ≤ length all) × IsUnopenedSince (take y.after all) y.connection y.reel) (sym new) (
+            more,
+            subst (λ os. IsUnopenedSince os v.k reel) (sym (take-append-le (length w.opens) w.opens _ (omega arith) ∙ take_all (length w.opens) w.opens (omega arith)))
+                (opened.last v.k v.s reel v.live was),
+          )
     ]
-  where
-    all : List Opening
-    all = (turned w v).opens
-
-    Holds : Writing → Type 0
-    Holds y = (y.after ≤ length all) × IsUnopenedSince (take y.after all) y.connection y.reel
-
-    more : length w.opens ≤ length all
-    more = let parts = length-append w.opens (option_to_list (option_map (opening v.k) (opened_reel v.request v.library v.session))) in omega (arith, parts)
-
-    front : (n : ℕ) → n ≤ length w.opens → take n all ≡ take n w.opens
-    front n within = take-append-le n w.opens _ within
-
-    old : Contains w.writings x → Holds x
-    old before =
-        let p = writers x before in
-        (omega (arith, p.0, more), subst (λ os. IsUnopenedSince os x.connection x.reel) (sym (front x.after p.0)) p.1)
-
-    now : (reel : List ℕ) → reel_written v.request v.library v.session ≡ Some reel → Holds (writing v.k (length w.opens) reel)
-    now reel is =
-        let was = was_open v.trouble w.server.holders (session_view w.server.library v.s.session) v.request v.reply (session_view v.library v.session) reel v.served.step is in (
-          more,
-          subst (λ os. IsUnopenedSince os v.k reel) (sym (front (length w.opens) (omega arith) ∙ take_all (length w.opens) w.opens (omega arith)))
-              (opened.last v.k v.s reel v.live was),
-        )
 
 pub writers_moved : (w : World) (m : Move w) → AreOpened w → AreWritersLast w → AreWritersLast (moved w m)
-writers_moved w (serves v) opened writers = served_writers w v opened writers
+writers_moved w (move.serves v) opened writers = served_writers w v opened writers
 writers_moved w m opened writers = writers
-
-pub first_writers : (drives : List PlainDriveSpec) → AreWritersLast (first_world drives)
-first_writers drives x (i, within, is) = absurd (omega (arith, within))
 
 -- a member of the front of a list
 pub front_in : (xs : List Opening) (n i : ℕ) (y : Opening) → numbered (take n xs) i ≡ Some y → numbered xs i ≡ Some y
 front_in xs n i y at = ap (λ l. numbered l i) (sym (take-append-drop n xs)) ∙ numbered_more (take n xs) (drop n xs) i y at
 
 pub in_front : (xs : List Opening) (n i : ℕ) (y : Opening) → n ≤ length xs → i ≤ n → numbered xs i ≡ Some y → numbered (take n xs) i ≡ Some y
-in_front xs n i y long within at =
-    let z = numbered_there (take n xs) i (numbered_first xs i y at) (omega (arith, length-take-le n xs long, within)) in
-    z.1 ∙ ap Some (same_Some z.0 y (sym (front_in xs n i z.0 z.1) ∙ at))
+in_front xs n i y long within at = grind (arith, numbered_there (take n xs) i (numbered_first xs i y at) (omega (arith, length-take-le n xs long, within)), front_in)
 
 -- where no session opened a reel since connection k did, no other wrote on it since
 pub last_alone : (w : World) (k : ℕ) (reel : List ℕ) → AreWritersLast w → IsUnopenedSince w.opens k reel → IsAlone w k reel
-last_alone w k reel writers (i, at, unopened) = (i, at, λ x among its since. by_place x its since (writers x among))
-  where
-    by_place : (x : Writing) → x.reel ≡ reel → i ≤ x.after
-        → (x.after ≤ length w.opens) × IsUnopenedSince (take x.after w.opens) x.connection x.reel → x.connection ≡ k
-    by_place x its since (within, (m, there, later)) =
-        let front = in_front w.opens x.after i (opening k reel) within since at in
-        let whole = front_in w.opens x.after m (opening x.connection x.reel) there in
-        elim (eqb_tells m i) [
-          | inl (equal, same) ↦ ap (λ (o : Opening). o.connection)
-              (same_Some (opening x.connection x.reel) (opening k reel) (sym there ∙ ap (numbered (take x.after w.opens)) same ∙ front))
-          | inr (unequal, other) ↦ absurd (elim (less_or_more m i other) [
-            | inl less ↦ later i (opening k reel) less front (sym its)
-            | inr more ↦ unopened m (opening x.connection x.reel) more whole its
-          ])
-        ]
+last_alone w k reel writers (i, at, unopened) = (
+  i,
+  at,
+  λ x among its since. (
+      let p = writers x among in
+      let front = in_front w.opens x.after i (opening k reel) p.0 since at in
+      let whole = front_in w.opens x.after p.1.0 (opening x.connection x.reel) p.1.1 in
+      grind (arith, less_or_more p.1.0 i, unopened p.1.0 (opening x.connection x.reel), p.1.2 i (opening k reel))),
+)

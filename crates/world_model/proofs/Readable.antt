@@ -1,5 +1,5 @@
 -- By each live side something is unread, if only no bytes, whatever happens.
-use Rattle.world_model.proofs.Basics.{◌≡◌, ℕ, length, Option, Some, None, refl, sym, subst, inl, inr, same_Some, arith}
+use Rattle.world_model.proofs.Basics.{◌≡◌, ℕ, length, Option, Some, None, refl, sym, subst, same_Some, arith}
 use Rattle.world_model.proofs.Terms.{held, ServerState, server, ServerConnection, side, World, with_numbered, side_of, ended_from, IsReadable}
 use Rattle.world_model.proofs.Sides.{Sits, sits_is, joined_is, KeepsOver, all_ended_by}
 use Rattle.world_model.proofs.ServerMoves.{HasUnread, ServerMove, reads, serves, restarts, server_after}
@@ -11,10 +11,7 @@ AreRead h = (k : ℕ) (s : ServerConnection) → side_of h k ≡ Some s → HasU
 
 -- one side is another, or over
 turned_read : (h u : ServerState) (k : ℕ) (s : ServerConnection) (o : Option ServerConnection) → Sits h k s o u → ((x : ServerConnection) → o ≡ Some x → HasUnread x) → AreRead h → AreRead u
-turned_read h u k s o t own r j x at = elim (sits_is h k s o u t j x at) [
-  | inl (same, mine) ↦ own x mine
-  | inr (other, was) ↦ r j x was
-]
+turned_read h u k s o t own r j x at = grind (arith, sits_is h k s o u t j x at, own x, r j x)
 
 another_read : (h u : ServerState) (k : ℕ) (s x : ServerConnection) → Sits h k s (Some x) u → HasUnread x → AreRead h → AreRead u
 another_read h u k s x t unread r = turned_read h u k s (Some x) t (λ y same. subst HasUnread (same_Some x y same) unread) r

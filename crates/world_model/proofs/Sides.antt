@@ -1,15 +1,11 @@
 -- The sides of a hall, where one is another, or over, or new.
-use Rattle.world_model.proofs.Basics.{◌≡◌, ◌≢◌, ◌⊎◌, ℕ, zero, suc, [], ◌∷◌, Option, Some, None, refl, sym, ap, ◌∙◌, inl, inr, option_and_then, eqb_tells, same_Some}
+use Rattle.world_model.proofs.Basics.{◌≡◌, ◌≢◌, ◌⊎◌, ℕ, zero, suc, [], ◌∷◌, Option, Some, ap, ◌∙◌, option_and_then, eqb_tells, arith}
 use Rattle.world_model.proofs.Terms.{held, ServerState, ServerConnection, side, Idle, numbered, with_numbered, side_of, with_side, ended_from, ended, all_ended}
 use Rattle.world_model.proofs.Numbers.{with_here, with_other, pushed_is, numbered_more}
 
 -- the live side of that number, as a member
-is_side : (o : Option (Option ServerConnection)) (s : ServerConnection) → option_and_then (λ x. x) o ≡ Some s → o ≡ Some (Some s)
-is_side None s is = absurd cc
-is_side (Some x) s is = ap Some is
-
 pub side_there : (h : ServerState) (k : ℕ) (s : ServerConnection) → side_of h k ≡ Some s → numbered h.sides k ≡ Some (Some s)
-side_there h k s is = is_side (numbered h.sides k) s is
+side_there h k s is = grind arith
 
 -- the live side of one connection is another, or over
 pub record Sits (h : ServerState) (k : ℕ) (s : ServerConnection) (o : Option ServerConnection) (u : ServerState) : Type 0 where
@@ -27,17 +23,11 @@ sits_other h k j s o u t other =
 -- a live side then: it is that one, or another's, which was there
 pub sits_is : (h : ServerState) (k : ℕ) (s : ServerConnection) (o : Option ServerConnection) (u : ServerState) → Sits h k s o u → (j : ℕ) (x : ServerConnection) → side_of u j ≡ Some x
     → ((j ≡ k) × (o ≡ Some x)) ⊎ ((j ≢ k) × (side_of h j ≡ Some x))
-sits_is h k s o u t j x at = elim (eqb_tells j k) [
-  | inl (equal, same) ↦ inl (same, sym (sits_here h k s o u t) ∙ ap (side_of u) (sym same) ∙ at)
-  | inr (unequal, other) ↦ inr (other, sym (sits_other h k j s o u t other) ∙ at)
-]
+sits_is h k s o u t j x at = grind (arith, eqb_tells j k, sits_here h k s o u t, sits_other h k j s o u t)
 
 -- a side more has nothing open
 pub joined_is : (h : ServerState) (k : ℕ) (s : ServerConnection) → side_of (with_side h) k ≡ Some s → (side_of h k ≡ Some s) ⊎ (side (held [] 0) Idle ≡ s)
-joined_is h k s at = elim (pushed_is h.sides (Some (side (held [] 0) Idle)) k (Some s) (side_there (with_side h) k s at)) [
-  | inl before ↦ inl (ap (option_and_then (λ x. x)) before)
-  | inr (last, new) ↦ inr (sym (same_Some s (side (held [] 0) Idle) new))
-]
+joined_is h k s at = grind (arith, pushed_is h.sides (Some (side (held [] 0) Idle)) k (Some s) (side_there (with_side h) k s at))
 
 pub joined_was : (h : ServerState) (k : ℕ) (s : ServerConnection) → side_of h k ≡ Some s → side_of (with_side h) k ≡ Some s
 joined_was h k s at = ap (option_and_then (λ x. x)) (numbered_more h.sides (Some (side (held [] 0) Idle) ∷ []) k (Some s) (side_there h k s at))
@@ -46,12 +36,8 @@ joined_was h k s at = ap (option_and_then (λ x. x)) (numbered_more h.sides (Som
 abbrev pub KeepsOver : (ServerState → Type 0) → Type 0
 KeepsOver P = (h : ServerState) (k : ℕ) (s : ServerConnection) → side_of h k ≡ Some s → P h → P (ended_from h k (Some s))
 
-from_by : (P : ServerState → Type 0) → KeepsOver P → (h : ServerState) (k : ℕ) (o : Option ServerConnection) → side_of h k ≡ o → P h → P (ended_from h k o)
-from_by P over h k None is p = p
-from_by P over h k (Some s) is p = over h k s is p
-
 pub ended_by : (P : ServerState → Type 0) → KeepsOver P → (h : ServerState) (k : ℕ) → P h → P (ended h k)
-ended_by P over h k p = from_by P over h k (side_of h k) refl p
+ended_by P over h k p = grind (arith, over h k)
 
 pub all_ended_by : (P : ServerState → Type 0) → KeepsOver P → (h : ServerState) (n : ℕ) → P h → P (all_ended h n)
 all_ended_by P over h zero p = p

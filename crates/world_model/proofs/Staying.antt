@@ -1,8 +1,8 @@
 -- The statement `AreNotReopened` stays true, whatever happens.
 -- The facts that hold in the first world and after each event.
-use Rattle.world_model.proofs.Basics.{◌≡◌, List, None, refl, arith, ℕ, zero, suc, [], ◌∷◌, length, map, replicate, Contains, Some, sym, ap, subst, ◌∙◌, inl, inr, slice_get, slice_index_or, eqb_tells, length-map, length-replicate, same_Some, length-append}
-use Rattle.world_model.proofs.Terms.{World, PlainDriveSpec, first_world, without_server, without_peer, new_connection, AreSingle, EachCountHasAttempt, IsClientLawful, IsOwned, AreTold, AreNotReopened, kept_reel, slot, drive_with, PlainEvent, AreGoodDrives, blank_drive, Happens, Runs, none, one_more, AreThere, IsWorldKept, NoTwoHolders, DumpdatesGained, Headline, CountedReels, SentRequests, LatchedReels, ClientsCounts, ReelsNotReopened, LabelledReels, SameNames}
-use Rattle.world_model.proofs.Ground.{OneReading, DroppedWrites, OneReply, talked, talked_dump, Turn, Move, begins, connects, asks, fails, reaches, cuts, talks, hears, hears_last, sees, forgets, gives_up, answers, moved, turned, happened, no_number, Standings, owned_moved, tidy_moved, held_moved, Goings, booked_moved, readable_moved, map_at}
+use Rattle.world_model.proofs.Basics.{◌≡◌, List, None, refl, arith, ℕ, zero, suc, [], ◌∷◌, map, replicate, Some, sym, subst, ◌∙◌, inl, inr, slice_get, slice_index_or, eqb_tells, ap, length-map, length-replicate, same_Some, length-append}
+use Rattle.world_model.proofs.Terms.{Connection, changed, World, PlainDriveSpec, first_world, without_server, without_peer, new_connection, AreSingle, EachCountHasAttempt, IsClientLawful, IsOwned, AreTold, AreNotReopened, kept_reel, slot, drive_with, PlainEvent, AreGoodDrives, blank_drive, Happens, Runs, none, one_more, AreThere, IsWorldKept, NoTwoHolders, DumpdatesGained, Headline, CountedReels, SentRequests, LatchedReels, ClientsCounts, SameNames}
+use Rattle.world_model.proofs.Ground.{side_there, OneReading, DroppedWrites, OneReply, talked, talked_dump, Move, begins, connects, asks, fails, reaches, cuts, talks, hears, hears_last, sees, forgets, gives_up, answers, moved, happened, no_number, Standings, owned_moved, tidy_moved, held_moved, Goings, booked_moved, readable_moved, map_at}
 use Rattle.world_model.proofs.Moves.{serves, ends, restarts, joins}
 use Rattle.world_model.proofs.NotReopenedQuiet.{SameOpens, changed_dumps, joined_dumps, idle_not_reopened, same_not_reopened, connected_not_reopened, changed_backs, joined_backs, strangers_backs, asked_not_reopened}
 use Rattle.world_model.proofs.NotReopenedHears.{heard_not_reopened, heard_last_not_reopened}
@@ -10,20 +10,10 @@ use Rattle.world_model.proofs.NotReopenedLooks.{Grounds}
 use Rattle.world_model.proofs.NotReopenedAnswers.{served_late, served_stopped, served_listed, served_looked}
 use Rattle.world_model.proofs.Lawfully.{Lawfully, lawful_moved}
 use Rattle.world_model.proofs.ToldAfter.{first_told, told_moved, first_single, first_labelled, first_earned, single_moved, labelled_moved, earned_moved}
-use Rattle.world_model.proofs.Counted.{labelled_reels, counted_reels, reels_not_reopened}
-use Rattle.world_model.proofs.Held.{side_there}
+use Rattle.world_model.proofs.Counted.{counted_reels}
 use Rattle.world_model.proofs.Laid.{laid_moved, online_drive, drive_within}
 use Rattle.world_model.proofs.Named.{names_after, named_moved, first_named}
-use Rattle.world_model.proofs.Opened.{opened_moved, first_opened, names_differ, writers_moved, first_writers}
-
-pub first_not_reopened : (drives : List PlainDriveSpec) → AreNotReopened (first_world drives)
-first_not_reopened drives = record {
-  paired = refl;
-  late = λ y d (i, within, is) has. absurd (omega (arith, within));
-  stopped = λ x k d (i, within, is) not_reopened since has. absurd (omega (arith, within));
-  listed = λ k i m c step o list own there at other opens mine from lists. absurd cc;
-  looked = λ k l c fed progress new x own on there had feeds goes counted not_reopened since. absurd cc;
-}
+use Rattle.world_model.proofs.Opened.{opened_moved, names_differ, writers_moved}
 
 -- The facts about the world after the event that the proof needs.
 pub record After (u : World) : Type 0 where
@@ -32,57 +22,51 @@ pub record After (u : World) : Type 0 where
   pub single : AreSingle u
   pub earned : EachCountHasAttempt u
 
-served_not_reopened : OneReading → DroppedWrites → OneReply → (w : World) (v : Turn w) → Grounds w → IsOwned w → IsClientLawful w → After (turned w v)
-    → AreNotReopened (turned w v)
-served_not_reopened r h g w v a owned lawful after = record {
+-- an event that leaves openings and writings
+quiet : (w u : World) → u.opens ≡ w.opens → u.lists ≡ w.lists → u.writings ≡ w.writings → SameOpens w u
+quiet w u opens lists writings = record { opens = opens; lists = lists; writings = writings }
+
+-- one by which the client leaves its own connection
+left_not_reopened : (w u : World) (k : ℕ) → SameOpens w u → Grounds w → u.connections ≡ changed without_peer w.connections k → u.counts ≡ w.counts → u.own ≡ None
+    → AreNotReopened u
+left_not_reopened w u k s a is counts over =
+    idle_not_reopened w u s (changed_dumps without_peer (λ x. refl) w u k is) a.opened a.writers counts
+    (λ j mine. (let clash = sym over ∙ mine in absurd cc)) a.not_reopened
+
+-- one that changes a connection, and neither its attempt nor what is on the way back
+still_not_reopened : (w u : World) (k : ℕ) (f : Connection → Connection) → SameOpens w u → Grounds w → u.connections ≡ changed f w.connections k
+    → ((x : Connection) → (f x).dump ≡ x.dump)
+    → ((x : Connection) → (f x).back ≡ x.back) → u.counts ≡ w.counts → u.own ≡ w.own → u.caller ≡ w.caller → AreNotReopened u
+still_not_reopened w u k f s a is dumps backs counts own same =
+    same_not_reopened w u s (changed_dumps f dumps w u k is) (changed_backs f backs w u k is) a.opened a.writers counts own same a.not_reopened
+
+pub not_reopened_moved : OneReading → DroppedWrites → OneReply → (w : World) (m : Move w) → Grounds w → IsOwned w → IsClientLawful w → After (moved w m)
+    → AreNotReopened (moved w m)
+not_reopened_moved r h g w (serves v) a owned lawful after = record {
   paired = (grind (arith, length-append));
   late = served_late r h w v a.told a.not_reopened.late;
   stopped = served_stopped r h w v a after.earned after.single;
   listed = served_listed w v a.not_reopened.paired a.not_reopened.listed;
   looked = served_looked r h g w v a owned lawful after.told after.earned after.single;
 }
-
--- an event that leaves openings and writings
-quiet : (w u : World) → u.opens ≡ w.opens → u.lists ≡ w.lists → u.writings ≡ w.writings → SameOpens w u
-quiet w u opens lists writings = record { opens = opens; lists = lists; writings = writings }
-
-pub not_reopened_moved : OneReading → DroppedWrites → OneReply → (w : World) (m : Move w) → Grounds w → IsOwned w → IsClientLawful w → After (moved w m)
-    → AreNotReopened (moved w m)
-not_reopened_moved r h g w (serves v) a owned lawful after = served_not_reopened r h g w v a owned lawful after
 not_reopened_moved r h g w (asks t) a owned lawful after = asked_not_reopened w t owned a.told a.opened a.not_reopened
 not_reopened_moved r h g w (hears t on) a owned lawful after = heard_not_reopened g w t on owned lawful a.told a.single a.opened a.writers a.not_reopened
 not_reopened_moved r h g w (hears_last t failure over) a owned lawful after =
     heard_last_not_reopened g w t failure over owned lawful a.told a.single a.opened a.writers a.not_reopened
 not_reopened_moved r h g w (begins run payload reader idle good long) a owned lawful after = grind arith
-not_reopened_moved r h g w (answers c answer reader there stage) a owned lawful after =
-    grind arith
+not_reopened_moved r h g w (answers c answer reader there stage) a owned lawful after = grind arith
 not_reopened_moved r h g w (connects c there ready) a owned lawful after = connected_not_reopened w c a.opened a.writers a.not_reopened
-not_reopened_moved r h g w (fails k n c reader there stage own) a owned lawful after =
-    let u = moved w (fails k n c reader there stage own) in
-    idle_not_reopened w u (quiet w u refl refl refl) (changed_dumps without_peer (λ x. refl) w u k refl) a.opened a.writers refl (λ j mine. absurd cc) a.not_reopened
-not_reopened_moved r h g w (sees t failure) a owned lawful after =
-    let u = moved w (sees t failure) in
-    idle_not_reopened w u (quiet w u refl refl refl) (changed_dumps without_peer (λ x. refl) w u t.k refl) a.opened a.writers refl (λ j mine. absurd cc) a.not_reopened
-not_reopened_moved r h g w (gives_up x k own) a owned lawful after =
-    let u = moved w (gives_up x k own) in
-    idle_not_reopened w u (quiet w u refl refl refl) (changed_dumps without_peer (λ y. refl) w u k refl) a.opened a.writers refl (λ j mine. absurd cc) a.not_reopened
+not_reopened_moved r h g w (fails k n c reader there stage own) a owned lawful after = left_not_reopened w _ k (quiet w _ refl refl refl) a refl refl refl
+not_reopened_moved r h g w (sees t failure) a owned lawful after = left_not_reopened w _ t.k (quiet w _ refl refl refl) a refl refl refl
+not_reopened_moved r h g w (gives_up x k own) a owned lawful after = left_not_reopened w _ k (quiet w _ refl refl refl) a refl refl refl
 not_reopened_moved r h g w (forgets x idle) a owned lawful after = grind arith
 not_reopened_moved r h g w (reaches k n s l reached live at grows) a owned lawful after =
-    let u = moved w (reaches k n s l reached live at grows) in
-    same_not_reopened w u (quiet w u refl refl refl) (changed_dumps _ (λ x. refl) w u k refl) (changed_backs _ (λ x. refl) w u k refl) a.opened a.writers refl refl
-    refl a.not_reopened
+    still_not_reopened w _ k _ (quiet w _ refl refl refl) a refl (λ x. refl) (λ x. refl) refl refl refl
 not_reopened_moved r h g w (ends k) a owned lawful after =
-    let u = moved w (ends k) in
-    same_not_reopened w u (quiet w u refl refl refl) (changed_dumps without_server (λ x. refl) w u k refl) (changed_backs without_server (λ x. refl) w u k refl) a.opened
-    a.writers refl refl refl a.not_reopened
+    still_not_reopened w _ k without_server (quiet w _ refl refl refl) a refl (λ x. refl) (λ x. refl) refl refl refl
 not_reopened_moved r h g w restarts a owned lawful after =
-    let u = moved w restarts in
-    same_not_reopened w u (quiet w u refl refl refl) ((grind (arith, map_at))) ((grind (arith, map_at))) a.opened a.writers
-    refl refl refl a.not_reopened
-not_reopened_moved r h g w (cuts k) a owned lawful after =
-    let u = moved w (cuts k) in
-    same_not_reopened w u (quiet w u refl refl refl) (changed_dumps _ (λ x. refl) w u k refl) (changed_backs _ (λ x. refl) w u k refl) a.opened a.writers refl refl
-    refl a.not_reopened
+    same_not_reopened w _ (quiet w _ refl refl refl) (grind (arith, map_at)) (grind (arith, map_at)) a.opened a.writers refl refl refl a.not_reopened
+not_reopened_moved r h g w (cuts k) a owned lawful after = still_not_reopened w _ k _ (quiet w _ refl refl refl) a refl (λ x. refl) (λ x. refl) refl refl refl
 not_reopened_moved r h g w (talks k l t at stranger) a owned lawful after =
     let u = moved w (talks k l t at stranger) in
     same_not_reopened w u (quiet w u refl refl refl) (changed_dumps (talked t) (talked_dump t) w u k refl) (strangers_backs (talked t) w u k l owned refl at stranger)
@@ -92,9 +76,6 @@ not_reopened_moved r h g w joins a owned lawful after =
     same_not_reopened w u (quiet w u refl refl refl) (joined_dumps w u (new_connection None) refl) (joined_backs w u (new_connection None) owned refl) a.opened a.writers refl
     refl refl a.not_reopened
 not_reopened_moved r h g w m a owned lawful after = grind arith
-
-no_member : {X : Type 0} (x : X) → Contains [] x → ⊥
-no_member x (k, within, is) = omega (arith, within)
 
 -- no drive has a holder
 no_holder : (n d k : ℕ) → slice_get (replicate n 0) d ≡ Some (suc k) → ⊥
@@ -112,41 +93,8 @@ first_there (drive ∷ drives) zero = blank_there drive.capacity drive.reels
 first_there (drive ∷ drives) (suc d) = first_there drives d
 
 pub first_kept : (drives : List PlainDriveSpec) → AreGoodDrives drives → IsWorldKept (first_world drives)
-first_kept drives good = record {
-  lawful = λ c is. absurd cc;
-  owned = (grind arith);
-  told = first_told drives;
-  single = first_single drives;
-  labelled = first_labelled drives;
-  counted = first_earned drives;
-  tidy = record { paired = refl; each = λ k l at. absurd (no_number k l at) };
-  held = record {
-    places = length-replicate (length drives) 0 ∙ sym (length-map drives blank_drive);
-    opened = λ k d s at drive. absurd (no_number k (Some s) (side_there (first_world drives).server k s at));
-    holds = λ k d at. absurd (no_holder (length drives) d k at);
-  };
-  laid = record {
-    latched = λ d (k, s, at, on). absurd (no_number k (Some s) (side_there (first_world drives).server k s at));
-    lying = λ d off. first_there drives d;
-    bin = tt;
-  };
-  booked = record {
-    last = λ c is. absurd cc;
-    begun = λ c is. absurd cc;
-    listed = λ c is. absurd cc;
-    kept = λ x is. absurd cc;
-    none = λ run past. refl;
-    earned = λ e among. absurd (no_member e among);
-    once = λ i j e f one other same. absurd (no_number i e one);
-    finished = λ c e is among same. absurd cc;
-    dates = refl;
-  };
-  once = first_named drives good;
-  opened = first_opened drives;
-  writers = first_writers drives;
-  not_reopened = first_not_reopened drives;
-  readable = λ k s at. absurd (no_number k (Some s) (side_there (first_world drives).server k s at));
-}
+first_kept drives good =
+    grind (arith, first_told, first_single, first_labelled, first_earned, no_number, length-replicate, length-map, side_there, no_holder, first_there, first_named)
 
 -- The facts from other crates about a client, requests and replies.
 pub record Laws : Type 0 where
@@ -157,20 +105,6 @@ pub record Laws : Type 0 where
   pub dropped : DroppedWrites
   pub reply : OneReply
 
-grounds : (w : World) → IsWorldKept w → Grounds w
-grounds w k = record {
-  held = k.held;
-  laid = k.laid;
-  named = k.once;
-  opened = k.opened;
-  writers = k.writers;
-  told = k.told;
-  single = k.single;
-  labelled = k.labelled;
-  earned = k.counted;
-  not_reopened = k.not_reopened;
-}
-
 kept_moved : Laws → (w : World) (m : Move w) → IsWorldKept w → IsWorldKept (moved w m)
 kept_moved g w m k =
     let held = held_moved w m k.held in
@@ -180,23 +114,15 @@ kept_moved g w m k =
     let told = told_moved g.reading g.dropped g.reply w m k.lawful k.owned k.tidy k.booked k.told in
     let single = single_moved g.reading g.dropped w m k.held k.told k.opened k.single in
     let earned = earned_moved g.reading g.dropped g.reply w m k.held k.owned k.told k.single k.counted in
-    record {
-      lawful = lawful_moved g.lawfully w m k.booked k.lawful;
-      owned = owned;
-      told = told;
-      single = single;
-      labelled = labelled_moved g.reading g.dropped w m k.held held laid named.once k.told k.opened k.single k.labelled;
-      counted = earned;
-      tidy = tidy_moved w m k.tidy;
-      held = held;
-      laid = laid;
-      booked = booked_moved g.goings w m k.lawful k.booked;
-      once = named;
-      opened = opened_moved w m k.tidy k.held held laid named.once k.opened;
-      writers = writers_moved w m k.opened k.writers;
-      not_reopened = not_reopened_moved g.reading g.dropped g.reply w m (grounds w k) k.owned k.lawful record { owned = owned; told = told; single = single; earned = earned };
-      readable = readable_moved w m k.readable;
-    }
+    let lawful = lawful_moved g.lawfully w m k.booked k.lawful in
+    let labelled = labelled_moved g.reading g.dropped w m k.held held laid named.once k.told k.opened k.single k.labelled in
+    let tidy = tidy_moved w m k.tidy in
+    let booked = booked_moved g.goings w m k.lawful k.booked in
+    let opened = opened_moved w m k.tidy k.held held laid named.once k.opened in
+    let writers = writers_moved w m k.opened k.writers in
+    let spares = not_reopened_moved g.reading g.dropped g.reply w m (grind arith) k.owned k.lawful (grind arith) in
+    let readable = readable_moved w m k.readable in
+    grind arith
 
 pub kept_after : Laws → (w u : World) (event : PlainEvent) → IsWorldKept w → Happens w event u → IsWorldKept u
 kept_after g w u event k happens = let m = happened w event u happens in subst IsWorldKept (sym m.1) (kept_moved g w m.0 k)
@@ -217,12 +143,6 @@ dumpdates_gained w kept = record { dates = kept.booked.dates; once = kept.booked
 
 pub reels_counted : (w : World) → IsWorldKept w → CountedReels w
 reels_counted w kept = counted_reels w kept.held kept.laid kept.once kept.writers kept.told kept.labelled kept.counted kept.not_reopened
-
-pub not_reopened_reels : (w : World) → IsWorldKept w → ReelsNotReopened w
-not_reopened_reels w kept = reels_not_reopened w kept.told kept.writers kept.not_reopened
-
-pub reels_labelled : (w : World) → IsWorldKept w → LabelledReels w
-reels_labelled w kept = labelled_reels w kept.held kept.laid kept.once kept.labelled
 
 pub sent_requests : (w : World) → IsWorldKept w → SentRequests w
 sent_requests w kept k d has = elim ((kept.told.each k has.0 has.1).sent d has.2) [

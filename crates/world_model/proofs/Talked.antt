@@ -1,31 +1,11 @@
 -- What a client's session carried out is a beginning of what its client sent, after every list of events.
-use Rattle.world_model.proofs.Basics.{◌≡◌, ◌≢◌, ◌⊎◌, ℕ, zero, suc, ◌+◌, ◌-◌, ◌<◌, ◌≤◌, ◌==◌, Bool, true, false, nat_lt, List, [], ◌∷◌, ◌++◌, length, map, Option, Some, None, Result, Ok, Err, append-nil, refl, sym, ap, subst, ◌∙◌, inl, inr, arith, option_map, eqb_tells, same_Some}
-use Rattle.world_model.proofs.Terms.{PlainRequest, ParsesAs, Unread, WireFault, ServerConnection, Trouble, PlainRun, request_of, checkpoint_of, Step, Open, Operation, Look, Label, Block, Close, Rewind, RewindAgain, Mark, Unload, ToSend, World, Connection, AttemptState, Begun, WorldClient, numbered, PlainEvent, Send, Serve, changed, side_of, without_peer, without_server, noted_sent, PlainDriveSpec, AreGoodDrives, first_world, Happens, Sends, Finds, Runs, none, one_more, sent_connection, IsWorldKept, is_labelled, VolumeHasBlocks, IsAttempt, IsItsTurn, IsConnectionToldAt, ServerTurn, IsNextSent, Talks, IsBeginning, Sent, CarriedOut, one_if_here, sent_here, carried_here}
+use Rattle.world_model.proofs.Basics.{◌≡◌, ◌≢◌, ◌⊎◌, ℕ, ◌<◌, ◌≤◌, ◌==◌, Bool, true, false, List, [], ◌∷◌, ◌++◌, length, map, Option, Some, None, Result, Ok, Err, append-nil, refl, sym, ap, subst, ◌∙◌, inl, inr, arith, option_map, eqb_tells, same_Some}
+use Rattle.world_model.proofs.Terms.{PlainRequest, ParsesAs, Unread, WireFault, ServerConnection, Trouble, request_of, checkpoint_of, Step, ToSend, World, Connection, AttemptState, Begun, WorldClient, numbered, PlainEvent, Send, Serve, changed, side_of, without_peer, without_server, noted_sent, PlainDriveSpec, AreGoodDrives, first_world, Happens, Sends, Finds, Runs, none, one_more, sent_connection, IsWorldKept, IsAttempt, IsItsTurn, IsConnectionToldAt, ServerTurn, IsNextSent, Talks, IsBeginning, Sent, CarriedOut, one_if_here, sent_here, carried_here}
 use Rattle.world_model.specs.Talk as talk
-use Rattle.world_model.proofs.Ground.{no_number, map_at, changed_is, pushed_is, numbered_within, steps_len, one_if, before_length, done_few, OneReading, DroppedWrites, noted_same, mapped, Turn, turned, turn_of, carries_turn, connections_more, begun_more, happened}
-use Rattle.world_model.proofs.Held.{side_there}
+use Rattle.world_model.proofs.Ground.{side_there, no_number, map_at, changed_is, pushed_is, numbered_within, before_length, done_few, OneReading, DroppedWrites, noted_same, mapped, Turn, turned, turn_of, carries_turn, connections_more, begun_more, happened}
 use Rattle.world_model.proofs.LabelledSingle.{served_dump, served_step, carried_more}
 use Rattle.world_model.proofs.RequestMeets.{next_request}
 use Rattle.world_model.proofs.Staying.{Laws, first_kept, kept_after}
-
--- which step comes after so many, and the step of that place
-place_in : Bool → ℕ → ℕ → ℕ → ℕ
-place_in false carried blocks more = carried
-place_in true carried blocks more = carried + 1 - blocks - more
-
-step_from : ℕ → ℕ → Step
-step_from zero next = Open
-step_from (suc zero) next = Operation Rewind
-step_from (suc (suc zero)) next = Look
-step_from (suc (suc (suc zero))) next = Operation RewindAgain
-step_from (suc (suc (suc (suc zero)))) next = Label
-step_from (suc (suc (suc (suc (suc zero))))) next = Block next
-step_from (suc (suc (suc (suc (suc (suc zero)))))) next = Operation (Mark next)
-step_from (suc (suc (suc (suc (suc (suc (suc zero))))))) next = Operation (Unload next)
-step_from (suc (suc (suc (suc (suc (suc (suc (suc n)))))))) next = Close
-
-one_more_block : (n blocks : ℕ) → n < blocks → one_if (nat_lt n blocks) ≡ 1
-one_more_block n blocks less = grind arith
 
 -- an attempt has one next request
 one_next : (w : World) (d : AttemptState) (request other : PlainRequest) → IsNextSent w d request → IsNextSent w d other → request ≡ other
@@ -43,30 +23,19 @@ same_dumped k xs l d at is = inl (l, at, is)
 
 changed_dumped : (k : ℕ) (xs ys : List Connection) (f : Connection → Connection) (j : ℕ) → ((x : Connection) → (f x).dump ≡ x.dump) → Dumped k xs ys → Dumped k xs (changed f ys j)
 unfolding Dumped
-changed_dumped k xs ys f j keeps t l d at is = elim (changed_is f ys j k l at) [
-  | inl (same, (z, was, new)) ↦ t z d (ap (numbered ys) same ∙ was) (sym (keeps z) ∙ ap (λ (x : Connection). x.dump) (sym new) ∙ is)
-  | inr (other, on) ↦ t l d on is
-]
+changed_dumped k xs ys f j keeps t l d at is = grind (arith, changed_is)
 
 other_dumped : (k : ℕ) (xs : List Connection) (f : Connection → Connection) (j : ℕ) → j ≢ k → Dumped k xs (changed f xs j)
 unfolding Dumped
-other_dumped k xs f j differs l d at is = elim (changed_is f xs j k l at) [
-  | inl (same, turned) ↦ absurd (differs (sym same))
-  | inr (other, on) ↦ inl (l, on, is)
-]
+other_dumped k xs f j differs l d at is = grind (arith, changed_is, turned)
 
 mapped_dumped : (k : ℕ) (xs : List Connection) (f : Connection → Connection) → ((x : Connection) → (f x).dump ≡ x.dump) → Dumped k xs (map f xs)
 unfolding Dumped
-mapped_dumped k xs f keeps l d at is =
-    let m = map_at f xs k l at in
-    inl (m.0, m.1, sym (keeps m.0) ∙ ap (λ (x : Connection). x.dump) (sym m.2) ∙ is)
+mapped_dumped k xs f keeps l d at is = grind (arith, map_at)
 
 joined_dumped : (k : ℕ) (xs : List Connection) (new : Connection) → ((d : AttemptState) → new.dump ≡ Some d → d.sent ≡ d.carried) → Dumped k xs (xs ++ new ∷ [])
 unfolding Dumped
-joined_dumped k xs new bare l d at is = elim (pushed_is xs new k l at) [
-  | inl on ↦ inl (l, on, is)
-  | inr (last, its) ↦ inr (omega (arith, last), bare d (ap (λ (x : Connection). x.dump) (sym its) ∙ is))
-]
+joined_dumped k xs new bare l d at is = grind (arith, pushed_is)
 
 -- by the world after it
 dumped_as : (k : ℕ) (w u v : World) → u ≡ v → Dumped k w.connections v.connections → Dumped k w.connections u.connections
@@ -86,17 +55,7 @@ goes_on : (w : World) (event : PlainEvent) (u : World) → Happens w event u →
 goes_on w event u happens = let m = happened w event u happens in subst (GoesOn w) (sym m.1) record { begun = begun_more w m.0; connections = connections_more w m.0 }
 
 next_on : (w u : World) (d : AttemptState) (request : PlainRequest) → GoesOn w u → IsNextSent w d request → IsNextSent u d request
-next_on w u d request on n = record {
-  begun = n.begun;
-  step = n.step;
-  begun_as = on.begun d.run n.begun n.begun_as;
-  sent = n.sent;
-  before = n.before;
-  label = n.label;
-  blocks = n.blocks;
-  mark = n.mark;
-  asks = n.asks;
-}
+next_on w u d request on n = grind arith
 
 -- no request of it
 still_talked : (w u : World) (k : ℕ) (sent carried more done : List PlainRequest) → GoesOn w u → Dumped k w.connections u.connections → more ≡ [] → done ≡ [] → IsTalked w k sent carried
@@ -170,8 +129,7 @@ sends_talked false w u k j c b step sent carried more done kept on own there sta
 serves_talked : OneReading → DroppedWrites → (w : World) (v : Turn w) (sent carried : List PlainRequest) → IsWorldKept w → GoesOn w (turned w v) → IsTalked w v.k sent carried
     → IsTalked (turned w v) v.k sent (carried ++ v.request ∷ [])
 serves_talked g h w v sent carried kept on t = record {
-  absent = λ past. (
-      absurd (omega (arith, numbered_within w.server.sides v.k (Some v.s) (side_there w.server v.k v.s v.live), kept.tidy.paired, on.connections, past)));
+  absent = grind (arith, numbered_within, side_there);
   told = λ d (l, at, is). elim (served_dump w v v.k l d at is) [
     | inr (other, was) ↦ absurd (other refl)
     | inl (same, (x, e, was, its, new)) ↦
@@ -215,7 +173,7 @@ talked_after : OneReading → DroppedWrites → (w u : World) (event : PlainEven
 talked_after g h w u (Send fails) k sent carried more done kept (may, (c, step, j, b, there, stage, own, begun, sends)) on (c', step', j', b', there', stage', own', begun', is) nothing t =
     grind (arith, sends_talked)
 talked_after g h w u (Serve j trouble) k sent carried more done kept happens on nothing (s, found, bytes, rest, live, unread, gives, finds, is) t =
-    finds_talked g h w u k j trouble s found bytes rest sent carried more done kept on live unread gives finds nothing is t
+    grind (arith, finds_talked)
 talked_after g h w u event k sent carried more done kept happens on some nothing t =
     still_talked w u k sent carried more done on ((grind (arith, same_dumped, joined_dumped, changed_dumped, mapped_dumped))) some nothing t
 
@@ -252,35 +210,3 @@ talks k first w events (one_more {before = before} event run happens) =
     let asks = sent_in k before event w happens in
     let does = carried_in k before event w happens in
     (t.0 ++ asks.0, t.1 ++ does.0, talk.one_more event asks.0 does.0 t.2 happens asks.1 does.1)
-
-module _ (label : Bool) (carried blocks more place next : ℕ) (step : Step) where
-  placed : label ≡ true → carried + 1 ≡ place + blocks + more → step ≡ step_from place next → step ≡ step_from (place_in label carried blocks more) next
-  unfolding place_in
-  placed is many its =
-      let at : carried + 1 - blocks - more ≡ place = omega (arith, many) in
-      its ∙ ap (λ p. step_from p next) (sym at) ∙ ap (λ l. step_from (place_in l carried blocks more) next) (sym is)
-
-  early : label ≡ false → carried ≡ place → step ≡ step_from place next → step ≡ step_from (place_in label carried blocks more) next
-  unfolding place_in
-  early is many its = its ∙ ap (λ p. step_from p next) (sym many) ∙ ap (λ l. step_from (place_in l carried blocks more) next) (sym is)
-
--- the numbers of an attempt tell its next step
-step_is : (run : PlainRun) (first blocks carried : ℕ) (label : Bool) (step : Step) → carried ≡ steps_len run first (first + blocks) step → label ≡ is_labelled step
-    → VolumeHasBlocks run first step blocks → step ≡ step_from (place_in label carried blocks (one_if (nat_lt (first + blocks) run.blocks))) (first + blocks)
-unfolding step_from
-step_is run first blocks carried label Open many is has = early label carried blocks _ 0 (first + blocks) Open is many refl
-step_is run first blocks carried label (Operation Rewind) many is has = early label carried blocks _ 1 (first + blocks) (Operation Rewind) is many refl
-step_is run first blocks carried label Look many is has = early label carried blocks _ 2 (first + blocks) Look is many refl
-step_is run first blocks carried label (Operation RewindAgain) many is has = early label carried blocks _ 3 (first + blocks) (Operation RewindAgain) is many refl
-step_is run first blocks carried label Label many is has = early label carried blocks _ 4 (first + blocks) Label is many refl
-step_is run first blocks carried label (Block number) many is has =
-    let at = has.0 in
-    let one = one_more_block (first + blocks) run.blocks (omega (arith, at, has.1)) in
-    placed label carried blocks _ 5 (first + blocks) (Block number) is (omega (arith, many, at, one)) (ap Block at)
-step_is run first blocks carried label (Operation (Mark next)) many is has =
-    let all = many ∙ ap (λ n. 5 + (n - first) + one_if (nat_lt n run.blocks)) has in
-    placed label carried blocks _ 6 (first + blocks) (Operation (Mark next)) is (omega (arith, all)) (ap (λ n. Operation (Mark n)) has)
-step_is run first blocks carried label (Operation (Unload next)) many is has =
-    let all = many ∙ ap (λ n. 6 + (n - first) + one_if (nat_lt n run.blocks)) has in
-    placed label carried blocks _ 7 (first + blocks) (Operation (Unload next)) is (omega (arith, all)) (ap (λ n. Operation (Unload n)) has)
-step_is run first blocks carried label Close many is has = placed label carried blocks _ 8 (first + blocks) Close is (omega (arith, many)) refl

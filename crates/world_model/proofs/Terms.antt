@@ -16,7 +16,6 @@ pub use Rattle.dump_client.specs.Script.{wanted_of, counted_label, request_of}
 pub use Rattle.dump_client.specs.Standing.{Standing, standing, FedAt, CutAt, IsOver, stage_after, checkpoint_of, count_to, counted_to, ReceivesAt, IsAtStep, Makes, Becomes}
 pub use Rattle.dump_client.specs.declared.fault.AttemptFault.{AttemptFault}
 pub use Rattle.dump_client.specs.declared.stage.Answer.{Answer}
-pub use Rattle.dump_client.specs.declared.stage.Answer.TheVariants.{Retry, Abandon}
 pub use Rattle.dump_client.specs.declared.stage.Progress.{Progress}
 pub use Rattle.dump_client.specs.declared.stage.Stage.{Stage}
 pub use Rattle.dump_client.specs.declared.stage.Stage.TheVariants.{Ready, ToSend, Waiting, Asking, Finished}
@@ -35,12 +34,11 @@ pub use Rattle.dumpdates.specs.Entry.{DatesEntry}
 pub use Rattle.rmt_server.specs.Access.{access_of, writes}
 pub use Rattle.rmt_server.specs.Refusals.{refused, tape_refusal, number_of, text_of}
 pub use Rattle.rmt_server.specs.ServerState.{ServerConnection, side, ServerState, server}
-pub use Rattle.rmt_server.specs.Session.{PlainReel, plain_reel, SessionView, tape_request, reel_reply, PlainSession, status_of, refusal, closed, closed_library, is_offline, session_view, op_refusal, write_refusal, refusal as check, open_reply, move_reply}
+pub use Rattle.rmt_server.specs.Session.{PlainReel, plain_reel, SessionView, tape_request, reel_reply, PlainSession, status_of, refusal, closed, closed_library, is_offline, session_view, write_refusal, refusal as check, open_reply, move_reply}
 pub use Rattle.rmt_server.specs.Session.PlainSession.{Online, Idle, Offline}
-pub use Rattle.rmt_server.specs.Session.Status.{NothingOpen}
 pub use Rattle.rmt_server.specs.TroubledServe.{TroubledReelStep, drive_in, with_holder, TroubledServeStep, TroubledOpenStep, TroubledMoveStep, TroubledOpStep, TroubledServe, TroubledDoneStep, holder_of}
 pub use Rattle.rmt_server.specs.declared.access.Access.{Access}
-pub use Rattle.rmt_server.specs.declared.access.Access.TheVariants.{Both, Read as ReadOnly, Write as WriteOnly}
+pub use Rattle.rmt_server.specs.declared.access.Access.TheVariants.{Both}
 pub use Rattle.rmt_wire.specs.Counted.{raised}
 pub use Rattle.rmt_wire.specs.Number.{HasNoLineFeed, line_feed, SpellsNumber, IsLine}
 pub use Rattle.rmt_wire.specs.Parsed.{Parsed, number_front}
@@ -52,7 +50,7 @@ pub use Rattle.rmt_wire.specs.ReplyParts.{ReplyParsesAs}
 pub use Rattle.rmt_wire.specs.ReplyReader.{ReplyHeld, reply_held, ReplyUnread}
 pub use Rattle.rmt_wire.specs.Request.{PlainRequest, SpellsRequest, request_text, HasSpelling, IsTextOf, unsent}
 pub use Rattle.rmt_wire.specs.Request.PlainRequest.{Write, WriteDropped, Read, Op, Open as OpenDevice, Close as CloseDevice}
-pub use Rattle.rmt_wire.specs.RequestParts.{ParsesAs, HasFault, IsDroppedLine}
+pub use Rattle.rmt_wire.specs.RequestParts.{ParsesAs, IsDroppedLine}
 pub use Rattle.rmt_wire.specs.RequestReader.{RequestHeld, Unread, held, UnreadAt}
 pub use Rattle.rmt_wire.specs.declared.errno.TheConstants.{ENOENT, ENOMEM, ENXIO, EIO, ENOSPC}
 pub use Rattle.rmt_wire.specs.declared.fault.WireFault.{WireFault}
@@ -74,7 +72,7 @@ pub use Rattle.world_model.specs.Events.{PlainEvent}
 pub use Rattle.world_model.specs.Events.PlainEvent.{StartRun, Connect, Send, ToServer, Serve, ToClient, Cut, EndAtServer, EndAtClient, ServerRestart, ClientRestart, Respond, Arrange, Stranger, Says, Enter, Save}
 pub use Rattle.world_model.specs.Faultless.{IsFaultlessWorld, IsOwnConnection, IsStepUnanswered, ReelsStandAt, StandsWith, StandsBefore, Leads, Stock, stock_of, volume_slots, attempt_on, volume_slot, IsFree, volume_by, IsMoved, IsOffline, IsStepAnswered, StandsThen, CountsThen, FailsFaultless, IsFaultlessFailure, blanks, one_drive, names_left, IsLatched, IsFaultless, AreFaultless, is_between, VolumesInOrder}
 pub use Rattle.world_model.specs.First.{PlainDriveSpec, AreGoodDrives, first_world, blank_drive, IsReadable}
-pub use Rattle.world_model.specs.Further.{ReelsNotReopened, LabelledReels, IsToldOf, CountsGrow, OwnOpens, SentRequests, LatchedReels, ClientsCounts}
+pub use Rattle.world_model.specs.Further.{ReelsNotReopened, LabelledReels, CountsGrow, OwnOpens, SentRequests, LatchedReels, ClientsCounts}
 pub use Rattle.world_model.specs.Headline.{IsEarned, AreOnce, IsNotReopened, CountedReels, NoTwoHolders, DumpdatesGained, Headline}
 pub use Rattle.world_model.specs.History.{volume_of, counted_if, counts_in, dates_with, dates_after, AreCountedIn, HasCountOf}
 pub use Rattle.world_model.specs.Kept.{IsKeptRun, AreBooked, IsClientLawful, AreLaid, IsWorldKept, AreTidy, IsTidy}
@@ -82,11 +80,11 @@ pub use Rattle.world_model.specs.Naming.{AreNamed, AreWritersLast, AreOpened, Sa
 pub use Rattle.world_model.specs.Owning.{IsOwned, is_in_attempt, IsClients}
 pub use Rattle.world_model.specs.Rows.{IsRunEntered, MayBeKept, NoRun, Possible}
 pub use Rattle.world_model.specs.Sending.{AreTold, GoesTo, LeadsOn, IsStepReply, IsAttempt, IsStepReplied, IsConnectionToldAt, AreUnserved, request_in, IsPending, IsStepAsked, FitsReplyReader, HasDone, IsGood, IsConnectionSent, IsSessionBefore, IsItsTurn, is_labelled, is_marked, VolumeHasBlocks, AreCounted, IsConnectionSettled, IsConnectionTold}
-pub use Rattle.world_model.specs.Serving.{ServerTurn, IsNextSent, is_open, undone, undone_holders, Refuses, IsRefused, ChangesAt, Meets, own, free, OthersStay, IsWholeInBin, IsMoveDone}
+pub use Rattle.world_model.specs.Serving.{ServerTurn, IsNextSent, is_open, IsRefused, ChangesAt, Meets, own, free, OthersStay, IsWholeInBin, IsMoveDone}
 pub use Rattle.world_model.specs.Sparing.{AreNotReopened, AreLateWriters, AreStopped, HasOpenedSince, HasLooked, AreListedNow, looked_requests}
 pub use Rattle.world_model.specs.Standing.{AreHeld, ReelHolds, ReelLiesIn, online_drive_in, IsReelOf, ReelLiesOn, HasInDrive, IsFirstAway, IsOnlineWith, AreThere, IsOnlineAt, HasReel, ReelHoldsJust}
 pub use Rattle.world_model.specs.Steps.{kept_after, caller, recorded, Happens, Hears, Finds, carried, begun, client_connected, fresh, asked, sent_connection, next_text, reached_by, heard, Runs, none, one_more, is_failing, Sends, SeesEnd, IsPushed, failed_read, forgotten_from, ResumesRun}
 pub use Rattle.world_model.specs.Sums.{CountedSums}
 pub use Rattle.world_model.specs.Talk.{Talks, IsBeginning, Sent, CarriedOut, one_if_here, sent_here, carried_here}
 pub use Rattle.world_model.specs.World.{World, Begun, WorldClient, Count, Entered, Kept, numbered, Connection, AttemptState, Opening, with_numbered, Writing}
-pub use Rattle.world_model.specs.Written.{whole_volume, attempt_written, block_records, IsAlone, IsBeforeOffline, mark_if, IsQuiet}
+pub use Rattle.world_model.specs.Written.{whole_volume, attempt_written, block_records, IsAlone, IsQuiet}
