@@ -1,13 +1,12 @@
 -- On a link without faults, a run that begins, an attempt that starts, and what is sent and reaches the server.
 -- What holds on a link without faults stays so, and the volumes are in order.
-use Rattle.world_model.proofs.Basics.{◌≡◌, ℕ, suc, ◌+◌, ◌≤◌, List, [], ◌∷◌, ◌++◌, length, length-append, drop, Some, refl, sym, ap, subst, ◌∙◌, inl, inr, arith, option_map, option_and_then, same_Some, true, false, IsTrue, flat_map, map, Option, slice_get, sum_by, sum_by-append, sum_by-cons, bytes_eq-Decides}
-use Rattle.world_model.proofs.Terms.{RequestHeld, held, ReplyHeld, ServerConnection, side, Idle, Step, Ready, ToSend, Waiting, World, Connection, AttemptState, Begun, WorldClient, PlainDriveSpec, side_of, connection_of, new_connection, noted_sent, begun, client_connected, fresh, asked, sent_connection, next_text, reached_by, IsWorldKept, AreUnserved, stock_of, volume_slot, volume_slots, IsFree, IsOwnConnection, StandsBefore, ReelsStandAt, StandsWith, IsFaultlessWorld, PlainEntry, KeptReel, ReelSlot, drive_with, drive_at, with_drive_at, slots_in, EachReelOnce, names_of, bit, named, times_named, sum_by_with_drive, ServerState, Stage, Count, numbered, PlainEvent, StartRun, Connect, Send, ToServer, Serve, ToClient, AreGoodDrives, first_world, Happens, Runs, none, one_more, is_failing, Sends, Finds, AreLaid, AreHeld, ReelLiesIn, ReelHolds, whole_volume, IsFaultless, AreFaultless, is_between, VolumesInOrder}
+use Rattle.world_model.proofs.Basics.{◌≡◌, ℕ, suc, ◌+◌, ◌≤◌, List, [], ◌∷◌, ◌++◌, length, length-append, drop, Option, Some, refl, sym, ap, subst, ◌∙◌, inl, inr, arith, option_map, same_Some, false, IsTrue, flat_map, map, slice_get, sum_by, sum_by-append, sum_by-cons, bytes_eq-Decides}
+use Rattle.world_model.proofs.Terms.{RequestHeld, held, ReplyHeld, caller, standing, ServerConnection, side, Idle, Step, Ready, ToSend, Waiting, World, Connection, Begun, WorldClient, PlainDriveSpec, side_of, connection_of, new_connection, noted_sent, begun, client_connected, fresh, asked, sent_connection, next_text, reached_by, IsWorldKept, AreUnserved, stock_of, volume_slot, volume_slots, IsFree, IsOwnConnection, ReelsStandAt, StandsWith, IsFaultlessWorld, PlainEntry, KeptReel, ReelSlot, drive_with, drive_at, with_drive_at, slots_in, EachReelOnce, bit, named, times_named, sum_by_with_drive, ServerState, Count, numbered, PlainEvent, StartRun, Connect, Send, ToServer, Serve, ToClient, AreGoodDrives, first_world, Happens, Runs, none, one_more, is_failing, Sends, Finds, AreLaid, AreHeld, ReelLiesIn, ReelHolds, whole_volume, IsFaultless, AreFaultless, VolumesInOrder}
 use Rattle.world_model.proofs.Ground.{pushed_is, numbered_more, numbered_last, numbered_there, numbered_within, numbered_first, no_number, turned_here, turned_beside, map_same, count_reel, slot_names, Behind, same_bin, among_at}
-use Rattle.world_model.proofs.FaultlessCarried.{changed_here, own_told, none_left, one_left, unserved_on, serve_faultless}
-use Rattle.world_model.proofs.FaultlessHears.{changed_connections, settles, hears_faultless}
+use Rattle.world_model.proofs.FaultlessCarried.{own_settles, own_told, none_left, one_left, unserved_on, serve_faultless}
+use Rattle.world_model.proofs.FaultlessHears.{hears_faultless}
 use Rattle.world_model.proofs.LabelledNames.{stands_one, lies_times, lies_within}
 use Rattle.world_model.proofs.Staying.{Laws, first_kept, kept_after}
-use Rattle.world_model.proofs.Terms.{PlainSession, Stock}
 
 -- the volumes that were counted are the same once another run is begun
 same_volumes : (drive : PlainDriveSpec) (w : World) (b : Begun) → IsWorldKept w
@@ -27,8 +26,7 @@ connected_faultless drive w c kept sm there ready =
     let paired = kept.tidy.paired in
     let b = kept.booked.begun c there in
     let free : IsFree drive (stock_of w) = subst (λ x. ReelsStandAt x drive w c) ready (subst (λ o. StandsWith o drive w) there sm.stands) in
-    let live : side_of u.server k ≡ Some s
-    = ap (side_of u.server) (let same : k ≡ suc (length w.server.sides) = omega (arith, paired) in same) ∙ ap (option_and_then (λ y. y)) (numbered_last w.server.sides (Some s)) in
+    let live : side_of u.server k ≡ Some s = grind (arith, numbered_last) in
     let mine : IsOwnConnection u k l (fresh c) b.0 s
     = grind (arith, numbered_last) in
     record {
@@ -47,11 +45,6 @@ connected_faultless drive w c kept sm there ready =
       failure = λ volume fault is. absurd cc;
     }
 
--- how all stands does not speak of how much was sent
-sent_stands : (drive : PlainDriveSpec) (t : Stock) (k : ℕ) (b : Begun) (d : AttemptState) (session : PlainSession) (step : Step) → StandsBefore step drive t k b d session
-    → StandsBefore step drive t k b (noted_sent d) session
-sent_stands drive t k b d session step q = grind arith
-
 -- the client sends its next request
 pub asked_faultless : (drive : PlainDriveSpec) (w : World) (k : ℕ) (c : WorldClient) (payload : List (List ℕ)) (step : Step) (reader : ReplyHeld) → IsWorldKept w → IsFaultlessWorld drive w
     → w.own ≡ Some k → w.caller ≡ Some c → c.at.stage ≡ ToSend step → IsFaultlessWorld drive (asked w k c payload step reader)
@@ -64,75 +57,30 @@ asked_faultless drive w k c payload step reader kept sm mine there stage =
         let text = next_text c payload step in
         let same : j ≡ k = same_Some j k (sym own.own ∙ mine) in
         let told = own_told w j l d b s c (ToSend step) kept own there stage in
-        let now : IsOwnConnection u j (sent_connection text l) (noted_sent d) b s
-        = record {
-          own = own.own;
-          there = changed_here (sent_connection text) w.connections j l own.there;
-          whole = own.whole;
-          dump = ap (option_map noted_sent) own.dump;
-          begun = own.begun;
-          live = own.live;
-        } in
-        subst (λ n. IsFaultlessWorld drive (asked w n c payload step reader)) same (settles drive w u j sm record {
-          own = own.own;
-          connections = changed_connections w u j (sent_connection text) refl (λ x e is. (noted_sent e, ap (option_map noted_sent) is));
-          sides = λ i other. refl;
-          here = λ y at not_own. absurd (not_own own.own);
-          begun = refl;
-          reels = sm.reels;
-          stands = (j, sent_connection text l, noted_sent d, b, s, now, inl record { back = told.2.back; stands = sent_stands drive (stock_of w) j b d s.session step stands });
-          failure = λ volume fault is. absurd cc;
-        })
+        subst (λ n. IsFaultlessWorld drive (asked w n c payload step reader)) same (own_settles drive w u j (sent_connection text) l d (noted_sent d) b s s
+        (caller c.number (standing c.at.run c.at.counts (Waiting step)) reader) (Waiting step) sm own refl (λ x e is. (noted_sent e, ap (option_map noted_sent) is))
+        (refl, ap (option_map noted_sent) own.dump, refl) (λ i other. refl) own.live (refl, refl, refl, refl) refl refl
+        (λ now. (j, sent_connection text l, noted_sent d, b, s, now, inl record { back = told.2.back; stands = (grind arith) })))
 
 -- nothing is on the way where nothing is unserved
 no_way : (s : ServerConnection) (way : List ℕ) (n : ℕ) → AreUnserved (Some s) way [] → 1 ≤ n → n ≤ length way → ⊥
-no_way s way n (reached, unread, is) first within =
-    let size : length (reached ++ way) ≡ 0 = ap length (sym is) in
-    grind (arith, length-append)
+no_way s way n (reached, unread, is) first within = grind (arith, length-append reached way)
 
 -- bytes reach the server
 pub reached_faultless : (drive : PlainDriveSpec) (w : World) (k n : ℕ) (s : ServerConnection) (l : Connection) (reached : RequestHeld) → IsWorldKept w → IsFaultlessWorld drive w → side_of w.server k ≡ Some s
     → connection_of w k ≡ Some l → 1 ≤ n → n ≤ length l.toward → IsFaultlessWorld drive (reached_by w k n s reached)
 reached_faultless drive w k n s l reached kept sm live conn first within = elim (unserved_on drive w k s l kept sm live conn) [
   | none_left empty ↦ absurd (no_way s l.toward n empty first within)
-  | one_left c step d b there stage own un ↦ moved_on d b c step there stage own un.back un.stands
+  | one_left c step d b there stage own un ↦ (
+      let u : World = reached_by w k n s reached in
+      let z : ServerConnection = side reached s.session in
+      own_settles drive w u k (λ a. record a { toward = drop n a.toward }) l d d b s z c (Waiting step) sm own refl (λ a e is. (e, is)) (refl, own.dump, refl)
+      (turned_beside w u k (Some z) refl) (turned_here w u k s (Some z) own.live refl) (refl, refl, refl, refl) there stage
+      (λ now. (k, record l { toward = drop n l.toward }, d, b, z, now, inl record { back = un.back; stands = un.stands })))
 ]
-  where
-    moved_on : (d : AttemptState) (b : Begun) (c : WorldClient) (step : Step) → w.caller ≡ Some c → c.at.stage ≡ Waiting step → IsOwnConnection w k l d b s
-        → l.back ≡ [] → StandsBefore step drive (stock_of w) k b d s.session → IsFaultlessWorld drive (reached_by w k n s reached)
-    moved_on d b c step there stage own back stands =
-        let u : World = reached_by w k n s reached in
-        let z : ServerConnection = side reached s.session in
-        let now : IsOwnConnection u k (record l { toward = drop n l.toward }) d b z
-        = record {
-          own = own.own;
-          there = changed_here (λ a. record a { toward = drop n a.toward }) w.connections k l own.there;
-          whole = own.whole;
-          dump = own.dump;
-          begun = own.begun;
-          live = turned_here w u k s (Some z) own.live refl;
-        } in
-        let at : ReelsStandAt (Waiting step) drive u c
-        = (k, record l { toward = drop n l.toward }, d, b, z, now, inl record { back = back; stands = stands }) in
-        settles drive w u k sm record {
-          own = own.own;
-          connections = changed_connections w u k (λ a. record a { toward = drop n a.toward }) refl (λ a e is. (e, is));
-          sides = λ i other. turned_beside w u k (Some z) refl i other;
-          here = λ a is not_own. absurd (not_own own.own);
-          begun = refl;
-          reels = sm.reels;
-          stands = subst (λ o. StandsWith o drive u) (sym there) (subst (λ a. ReelsStandAt a drive u c) (sym stage) at);
-          failure = λ volume fault is. absurd cc;
-        }
 
 pub first_faultless : (drive : PlainDriveSpec) → IsFaultlessWorld drive (first_world (drive ∷ []))
-first_faultless drive = record {
-  clients = λ j l at. absurd (no_number j l at);
-  still = λ j l at not_own. absurd (no_number j l at);
-  reels = refl;
-  stands = record { library = refl; holders = refl };
-  failure = λ volume fault is. absurd cc;
-}
+first_faultless drive = grind (arith, no_number)
 
 pub faultless_after : Laws → (drive : PlainDriveSpec) (w u : World) (event : PlainEvent) → IsWorldKept w → IsFaultlessWorld drive w → IsFaultless event → Happens w event u → IsFaultlessWorld drive u
 faultless_after g drive w u (StartRun run payload) kept sm whole ((idle, good, size), (reader, is)) =
@@ -155,8 +103,8 @@ faultless_after g drive w u event kept sm whole happens = absurd whole
 
 -- a list without faults and an event without one
 last_faultless : (events : List PlainEvent) (event : PlainEvent) → AreFaultless (events ++ event ∷ []) → AreFaultless events × IsFaultless event
-last_faultless [] event whole = (tt, whole.0)
-last_faultless (e ∷ events) event whole = let on = last_faultless events event whole.1 in ((whole.0, on.0), on.1)
+last_faultless [] event whole = grind arith
+last_faultless (e ∷ events) event whole = grind (arith, last_faultless events event)
 
 -- after every list of events without a fault
 pub runs_faultless : Laws → (drive : PlainDriveSpec) (first w : World) (events : List PlainEvent) → IsWorldKept first → IsFaultlessWorld drive first → AreFaultless events → Runs first events w
@@ -203,10 +151,6 @@ bin_alone h name entries other held laid once lies (inl (inr two)) =
 bin_alone h name entries other held laid once lies (inr (k, s, at, (drive, access, reel, online, first, holds))) =
     sym holds ∙ sym (stands_one h k s drive access reel name entries at online first held laid once (inl (inr lies)))
 
-between_names : (drive : PlainDriveSpec) (w : World) (c : WorldClient) (stage : Stage) → is_between stage ≡ true → ReelsStandAt stage drive w c
-    → names_of w.server.library.bin ≡ map (λ (x : Count). x.reel) w.counts
-between_names drive w c stage is given = grind (arith, slot_names)
-
 -- the volumes are in order
 pub in_order : (drive : PlainDriveSpec) (w : World) → IsWorldKept w → IsFaultlessWorld drive w → VolumesInOrder drive w
 in_order drive w kept sm = record {
@@ -225,7 +169,7 @@ in_order drive w kept sm = record {
           alone = λ entries on. bin_alone w.server x.reel _ entries kept.held kept.laid kept.once.once lies on;
         },
       ));
-  bin = λ (c, there, between). between_names drive w c c.at.stage between (subst (λ o. StandsWith o drive w) there sm.stands);
+  bin = λ (c, there, between). (let stands = subst (λ o. StandsWith o drive w) there sm.stands in grind (arith, slot_names));
 }
 
 pub runs_in_order : Laws → (drive : PlainDriveSpec) (events : List PlainEvent) (w : World) → AreGoodDrives (drive ∷ []) → AreFaultless events

@@ -29,9 +29,9 @@ pub record IsServed (w : World) (v : Turn w) (l : Connection) (d : AttemptState)
   pub asks : v.request ≡ request_in b d step
 
 served_sent : OneReading → DroppedWrites → (w : World) (v : Turn w) (l : Connection) (d : AttemptState) → IsConnectionSent w.begun (Some v.s) l d → IsServed w v l d
-served_sent g h w v l d (inl settled) = absurd (nothing_there h v.s l.toward v.bytes v.rest v.request settled.unserved v.unread v.gives)
+served_sent g h w v l d (inl settled) = absurd (nothing_there h w v l.toward settled.unserved)
 served_sent g h w v l d (inr (b, step, at, p)) =
-    let all = serve_pending g h b v.s l.toward d step v.bytes v.rest v.request v.reply v.reached v.session p v.unread v.gives v.left in
+    let all = serve_pending g h w v b l.toward d step p in
     grind arith
 
 pub served_step : OneReading → DroppedWrites → (w : World) (v : Turn w) → AreTold w → (l : Connection) (d : AttemptState) → connection_of w v.k ≡ Some l

@@ -7,7 +7,6 @@ use Rattle.world_model.proofs.LabelledSingle.{served_dump, IsServed, served_step
 use Rattle.world_model.proofs.Opened.{writing_is}
 use Rattle.world_model.proofs.NotReopenedQuiet.{GoesBack, not_reopened_back}
 use Rattle.world_model.proofs.NotReopenedLooks.{Grounds, look_finds}
-use Rattle.world_model.proofs.SentTexts.{reply_texts}
 use Rattle.world_model.proofs.NotReopenedPast.{look_past, reply_past}
 
 list_is : (lists : List (List VolumeCount)) (now : List VolumeCount) (opened : Option (List ℕ)) (m : ℕ) (list : List VolumeCount)
@@ -161,7 +160,7 @@ reply_is g w v c l d progress new a =
     (a.served.asks ∙ ap (request_in a.served.b d) is.1) v.served.step in
     let shown = look_online v.trouble w.server.holders (session_view w.server.library v.s.session) v.reply (session_view v.library v.session) on.1.0 on.0 on.1.1 served in
     let its : FitsReplyReader (DataUpTo label_bytes) a.reply = subst (λ s. FitsReplyReader (wanted_of s) a.reply) is.0 a.brief in
-    (g (DataUpTo label_bytes) (reply_text v.reply) [] v.reply a.reply (shown_brief reply_texts v.reply shown.0).spelled
+    (g (DataUpTo label_bytes) (reply_text v.reply) [] v.reply a.reply (shown_brief v.reply shown.0).spelled
     (subst (λ t. SpellsReply t a.reply (DataUpTo label_bytes)) (sym a.text ∙ sym (append-nil (reply_text v.reply))) its.spelled)).1
 
 -- no reply shows a counted label and none
@@ -248,9 +247,9 @@ stage_past : DroppedWrites → OneReply → (w : World) (v : Turn w) (stage : St
     → IsTrue (is_in_attempt stage) → IsConnectionToldAt stage w.begun (Some v.s) l c d → IsConnectionToldAt stage begun o m c (noted v.request v.reply d)
     → HasFedAt stage c.reader fed → FedAt stage c.at fed m.back progress new → ⊥
 stage_past h g w v (ToSend step) c l m d begun o fed progress new x k lawful s stage inside (b, attempt, turn) told had feeds =
-    nothing_there h v.s l.toward v.bytes v.rest v.request turn.settled.unserved v.unread v.gives
+    nothing_there h w v l.toward turn.settled.unserved
 stage_past h g w v (Waiting step) c l m d begun o fed progress new x k lawful s stage inside (b, attempt, inr replied) told had feeds =
-    nothing_there h v.s l.toward v.bytes v.rest v.request replied.settled.unserved v.unread v.gives
+    nothing_there h w v l.toward replied.settled.unserved
 stage_past h g w v (Waiting step) c l m d begun o fed progress new x k lawful s stage inside (b, attempt, inl asked) (e, same, inl again) had feeds =
     absurd (omega (arith, again.pending.sent, asked.pending.sent, carried_more d v.request v.reply s.served.few, (noted_same d v.request v.reply).sent))
 stage_past h g w v (Waiting step) c l m d begun o fed progress new x k lawful s stage inside (b, attempt, inl asked) (e, same, inr replied) had feeds =

@@ -18,9 +18,9 @@ carries_happens w u k trouble c = (
 
 -- it is the one that was sent and not carried out
 sent_next : OneReading → DroppedWrites → (w : World) (v : Turn w) (l : Connection) (d : AttemptState) → IsConnectionSent w.begun (Some v.s) l d → IsNextSent w d v.request
-sent_next g h w v l d (inl settled) = absurd (nothing_there h v.s l.toward v.bytes v.rest v.request settled.unserved v.unread v.gives)
+sent_next g h w v l d (inl settled) = absurd (nothing_there h w v l.toward settled.unserved)
 sent_next g h w v l d (inr (b, step, at, p)) =
-    let all = serve_pending g h b v.s l.toward d step v.bytes v.rest v.request v.reply v.reached v.session p v.unread v.gives v.left in
+    let all = serve_pending g h w v b l.toward d step p in
     grind arith
 
 pub next_request : OneReading → DroppedWrites → (w : World) (v : Turn w) (l : Connection) (d : AttemptState) → AreTold w → connection_of w v.k ≡ Some l → l.dump ≡ Some d

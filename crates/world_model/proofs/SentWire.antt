@@ -1,10 +1,9 @@
 -- What a reader of requests has of a text that a client sent, and a reader of replies of a text that a server sent.
 -- How many steps come before a step, and what is left of a session's state when its side is another.
-use Rattle.world_model.proofs.Basics.{◌≡◌, ◌≢◌, ◌⊎◌, ◌↔◌, ℕ, suc, ◌+◌, ◌<◌, ◌≤◌, ◌==◌, Bool, true, false, if◌then◌else◌, List, [], ◌∷◌, ◌++◌, length, length-append, take, drop, replicate, Option, Some, None, Result, Ok, Err, append_assoc, append-nil, refl, sym, ap, subst, ◌∙◌, arith, take_at, take-append-drop, length-replicate, length-take-le, nil_from_length, length-drop, zero, ◌-◌, ◌^◌, nat_lt}
-use Rattle.world_model.proofs.Terms.{READER_LIMIT, RECORD_LIMIT, SpellsNumber, line_feed, PlainRequest, SpellsRequest, WriteDropped, PlainReply, Wanted, SpellsReply, reply_text, text_len, kept_text, kept_behind, ReplyParsesAs, ReplyHeld, ReplyUnread, Parsed, number_front, ParsesAs, IsDroppedLine, RequestHeld, held, Unread, UnreadAt, WireFault, FitsReplyReader, raised, ServerConnection, PlainRun, IsRun, steps_before, blocks_from, Step, Open, Operation, Look, Label, Block, Close, Rewind, RewindAgain, Mark, Unload, AttemptState, HasDone, IsSessionBefore}
+use Rattle.world_model.proofs.Basics.{◌≡◌, ◌≢◌, ◌⊎◌, ◌↔◌, ℕ, suc, ◌+◌, ◌<◌, ◌≤◌, Bool, true, false, List, [], ◌∷◌, ◌++◌, length, length-append, take, drop, replicate, Option, Some, None, Result, Ok, Err, append_assoc, append-nil, refl, sym, ap, subst, ◌∙◌, arith, take_at, take-append-drop, length-replicate, length-take-le, nil_from_length, length-drop, zero, ◌-◌, ◌^◌, nat_lt}
+use Rattle.world_model.proofs.Terms.{READER_LIMIT, RECORD_LIMIT, SpellsNumber, line_feed, PlainRequest, SpellsRequest, WriteDropped, PlainReply, Wanted, SpellsReply, reply_text, text_len, kept_text, kept_behind, ReplyParsesAs, ReplyHeld, ReplyUnread, Parsed, ParsesAs, IsDroppedLine, RequestHeld, held, Unread, UnreadAt, WireFault, FitsReplyReader, raised, ServerConnection, PlainRun, IsRun, steps_before, blocks_from, Step, Open, Operation, Look, Label, Block, Close, Rewind, RewindAgain, Mark, Unload, AttemptState, HasDone}
 use Rattle.rmt_wire.specs.ReplyFront.{kept_of}
 use Rattle.rmt_wire.specs.RequestReader.{dropped_line}
-use Rattle.rmt_wire.specs.declared.number.Place.TheVariants as places
 
 -- At each place a reader can give one thing only.
 abbrev pub OneReading : Type 0
@@ -50,9 +49,6 @@ one_read_at g h bytes other (Some line) is short one two = absurd (short (long_r
 pub one_read : DroppedWrites → (h : RequestHeld) (bytes other : List ℕ) → (BeginsLong bytes → ⊥) → Unread h bytes → Unread h other → bytes ≡ other
 one_read g h bytes other short one two = one_read_at g h bytes other (dropped_line h.kept) refl short one two
 
-pub nothing_long : BeginsLong [] → ⊥
-nothing_long (number, behind, count, spelled, large, is) = cc
-
 -- after the text of a request there is room for all that such a line would drop
 long_gives : (number behind pad : List ℕ) (count : ℕ) → SpellsNumber number count → RECORD_LIMIT < count → count ≤ length (behind ++ pad)
     → ParsesAs (87 ∷ (number ++ line_feed ∷ (behind ++ pad))) (Ok (Some (WriteDropped count))) (drop count (behind ++ pad))
@@ -67,11 +63,9 @@ pub text_not_long : OneReading → (text bytes more : List ℕ) (request : Plain
     → text ≡ bytes ++ more → BeginsLong bytes → ⊥
 text_not_long g text bytes more request spelled kept is (number, behind, count, numeral, large, begins) =
     let pad : List ℕ = replicate count 0 in
-    let two = length-replicate {A = ℕ} count 0 in
     let stream : text ++ pad ≡ 87 ∷ (number ++ line_feed ∷ (behind ++ (more ++ pad))) = grind (arith, append_assoc) in
-    let whole : ParsesAs (text ++ pad) (Ok (Some request)) pad = (text, spelled, refl) in
-    let other = long_gives number behind (more ++ pad) count numeral large (omega (arith, length-append behind (more ++ pad), length-append more pad, two)) in
-    let same = (g (text ++ pad) pad _ (Ok (Some request)) (Ok (Some (WriteDropped count))) whole
+    let other = long_gives number behind (more ++ pad) count numeral large (grind (arith, length-append, length-replicate)) in
+    let same = (g (text ++ pad) pad _ (Ok (Some request)) (Ok (Some (WriteDropped count))) (text, spelled, refl)
     (subst (λ l. ParsesAs l (Ok (Some (WriteDropped count))) (drop count (behind ++ (more ++ pad)))) (sym stream) other)).0 in
     kept count (cc)
 
@@ -86,24 +80,12 @@ gives_whole g text bytes way rest request found spelled is (front, spells, split
 
 text_within : (text : List ℕ) → text_len text ≤ length text
 text_within [] = omega arith
-text_within (b ∷ text) = first_within (b == line_feed) (text_len text) (length text) (text_within text)
-  where
-    first_within : (test : Bool) (n m : ℕ) → n ≤ m → (if test then 0 else suc n) ≤ suc m
-    first_within true n m less = omega arith
-    first_within false n m less = omega (arith, less)
-
-letter_kept : (letter : ℕ) (bytes : List ℕ) (b : Bool) → (letter == 69) ≡ b → length (kept_of (letter ∷ bytes)) < 255 → kept_of (letter ∷ bytes) ≡ letter ∷ bytes
-unfolding kept_of
-letter_kept letter bytes true is short =
-    let here : kept_of (letter ∷ bytes) ≡ letter ∷ kept_behind (number_front places.Line bytes) bytes
-    = ap (λ b. if b then letter ∷ kept_behind (number_front places.Line bytes) bytes else letter ∷ bytes) is in
-    here ∙ ap (λ l. letter ∷ l) ((grind (arith, length-append, text_within, length-take-le, take-append-drop)))
-letter_kept letter bytes false is short = ap (λ b. if b then letter ∷ kept_behind (number_front places.Line bytes) bytes else letter ∷ bytes) is
+text_within (b ∷ text) = grind (arith, text_within text)
 
 kept_whole : (bytes : List ℕ) → length (kept_of bytes) < 255 → kept_of bytes ≡ bytes
 unfolding kept_of
 kept_whole [] short = refl
-kept_whole (letter ∷ bytes) short = letter_kept letter bytes (letter == 69) refl short
+kept_whole (letter ∷ bytes) short = grind (arith, length-append, text_within, length-take-le, take-append-drop)
 
 -- no more is kept than came
 text_no_more : (text : List ℕ) → length (kept_text text) ≤ length text
@@ -117,19 +99,10 @@ behind_no_more (Ok (Some n)) bytes =
     grind (arith, take-append-drop)
 behind_no_more o bytes = grind arith
 
-letter_no_more : (letter : ℕ) (bytes : List ℕ) (b : Bool) → (letter == 69) ≡ b → length (kept_of (letter ∷ bytes)) ≤ length (letter ∷ bytes)
-unfolding kept_of
-letter_no_more letter bytes true is =
-    let size = ap (λ b. length (if b then letter ∷ kept_behind (number_front places.Line bytes) bytes else letter ∷ bytes)) is in
-    omega (arith, size, behind_no_more (number_front places.Line bytes) bytes)
-letter_no_more letter bytes false is =
-    let size = ap (λ b. length (if b then letter ∷ kept_behind (number_front places.Line bytes) bytes else letter ∷ bytes)) is in
-    omega (arith, size)
-
 pub no_more_kept : (bytes : List ℕ) → length (kept_of bytes) ≤ length bytes
 unfolding kept_of
 no_more_kept [] = omega arith
-no_more_kept (letter ∷ bytes) = letter_no_more letter bytes (letter == 69) refl
+no_more_kept (letter ∷ bytes) = grind (arith, behind_no_more)
 
 -- the bytes of no error are kept whole, and no others as they are
 abbrev pub IsNoError : List ℕ → Type 0
@@ -138,21 +111,12 @@ IsNoError (letter ∷ bytes) = letter ≢ 69
 
 no_error_kept : (bytes : List ℕ) → IsNoError bytes → kept_of bytes ≡ bytes
 unfolding kept_of
-no_error_kept [] none = refl
-no_error_kept (letter ∷ bytes) other =
-    let test : (letter == 69) ≡ false = grind arith in
-    ap (λ b. if b then letter ∷ kept_behind (number_front places.Line bytes) bytes else letter ∷ bytes) test
-
-begins_kept : (bytes : List ℕ) (letter : ℕ) (b : Bool) → (letter == 69) ≡ b → IsNoError (kept_of (letter ∷ bytes)) → IsNoError (letter ∷ bytes)
-unfolding kept_of
-begins_kept bytes letter true is other =
-    subst IsNoError (ap (λ b. if b then letter ∷ kept_behind (number_front places.Line bytes) bytes else letter ∷ bytes) is) other
-begins_kept bytes letter false is other =
-    subst IsNoError (ap (λ b. if b then letter ∷ kept_behind (number_front places.Line bytes) bytes else letter ∷ bytes) is) other
+no_error_kept bytes other = grind arith
 
 same_error : (bytes : List ℕ) → IsNoError (kept_of bytes) → IsNoError bytes
+unfolding kept_of
 same_error [] none = tt
-same_error (letter ∷ bytes) other = begins_kept bytes letter (letter == 69) refl other
+same_error (letter ∷ bytes) other = grind arith
 
 -- where few bytes came, or those of no error, these alone
 pub one_heard : (h : ReplyHeld) (wanted : Wanted) (bytes other : List ℕ) → (length bytes < 255) ⊎ IsNoError bytes → ReplyUnread h (Some wanted) bytes
@@ -220,12 +184,4 @@ done_few run o d step good h = grind (arith, before_length)
 -- the side is over, or its session stays
 pub moved_done : (run : PlainRun) (o p : Option ServerConnection) (d : AttemptState) (step : Step)
     → ((s : ServerConnection) → p ≡ Some s → (x : ServerConnection) × (o ≡ Some x) × (s.session ≡ x.session)) → HasDone run o d step → HasDone run p d step
-moved_done run o p d step same h = record {
-  carried = h.carried;
-  fault = h.fault;
-  label = h.label;
-  blocks = h.blocks;
-  within = h.within;
-  mark = h.mark;
-  stands = λ s at. (let x = same s at in subst (IsSessionBefore step) (sym x.2) (h.stands x.0 x.1));
-}
+moved_done run o p d step same h = grind arith

@@ -1,6 +1,6 @@
 -- How a reply, or a piece of it, changes a client: the facts about its connection then, and its count.
 use Rattle.world_model.proofs.Basics.{◌≡◌, ℕ, ◌+◌, false, List, [], ◌++◌, append_assoc, IsTrue, ◌⊎◌, ◌∷◌, map, Contains, Contains-push_cases, take, drop, Option, Some, None, Result, Ok, Err, sym, append-nil, take-append-drop, arith, ◌≢◌, ◌≤◌, length, length-append, refl, ap, subst, ◌∙◌, inl, inr, same_Some, take_at}
-use Rattle.world_model.proofs.Terms.{PlainReply, SpellsReply, reply_text, ReplyParsesAs, ReplyHeld, WireFault, wanted_of, Reply, Standing, ReceivesAt, FedAt, Makes, HasFedAt, Step, Progress, Waiting, FitsReplyReader, ServerConnection, checkpoint_of, attempt_at, unanswered, VolumeCount, Close, Stage, ToSend, HeardAs, World, Connection, AttemptState, Begun, WorldClient, side_of, caller, IsOwned, GoesTo, LeadsOn, IsStepReply, IsAttempt, IsStepReplied, IsConnectionToldAt, IsConnectionSettled, AreTold, is_in_attempt, heard_as, count_to, counts_of, Count}
+use Rattle.world_model.proofs.Terms.{PlainReply, SpellsReply, reply_text, ReplyParsesAs, ReplyHeld, WireFault, wanted_of, Reply, Standing, ReceivesAt, FedAt, Makes, HasFedAt, Step, Progress, Waiting, FitsReplyReader, checkpoint_of, attempt_at, unanswered, VolumeCount, Close, Stage, ToSend, HeardAs, World, Connection, Begun, WorldClient, side_of, caller, IsOwned, GoesTo, LeadsOn, IsAttempt, IsConnectionToldAt, IsConnectionSettled, AreTold, is_in_attempt, heard_as, count_to, counts_of, Count}
 use Rattle.world_model.proofs.Ground.{OneReply, one_heard, brief_begins, reply_whole, reply_no_fault, changed_told, Listens, is_over, told_counts, drop_front}
 use Rattle.dump_client.specs.declared.stage.Progress.TheVariants as came
 use Rattle.world_model.proofs.Moves as move
@@ -36,14 +36,6 @@ pub unlike_close : (old new : Standing) (step next : Step) (reply : PlainReply) 
     → step ≢ Close
 unlike_close old new step next reply progress hears at = grind arith
 
--- the client goes on with its attempt
-goes_attempt : (begun : List Begun) (c : WorldClient) (reader : ReplyHeld) (new : Standing) (d : AttemptState) (o : Option ServerConnection) (step next : Step) (b : Begun) → step ≢ Close
-    → GoesTo b.run o c.at d new next → IsAttempt begun c d step b → IsAttempt begun (caller c.number new reader) d next b
-goes_attempt begun c reader new d o step next b other g a = grind (arith, length-append, take_at)
-
-pub waits_no_more : (old new : Standing) (progress : Progress) (step : Step) → HeardAs old new false progress → new.stage ≡ Waiting step → ⊥
-waits_no_more old new progress step given at = grind arith
-
 -- A reply that a client hears: the attempt on whose connection it comes, the step that it answers, and the piece that was heard of it.
 pub record IsHearing (w : World) (t : Listens w) : Type 0 where
   pub step : Step
@@ -56,34 +48,31 @@ pub record IsHearing (w : World) (t : Listens w) : Type 0 where
   pub leads : LeadsOn b.run (side_of w.server t.k) t.c.at t.d step reply
   pub piece : HearsPiece t.c.at step reply (t.fed ++ take t.n t.l.back) (drop t.n t.l.back) t.progress t.at
 
-replied_hearing : OneReply → (w : World) (t : Listens w) (step : Step) (b : Begun) → t.c.at.stage ≡ Waiting step → IsAttempt w.begun t.c t.d step b
-    → (r : IsStepReplied b (side_of w.server t.k) t.l t.c t.d step) → IsStepReply b.run (side_of w.server t.k) t.c.at t.d step (r.fed ++ t.l.back)
-    → HasFedAt (Waiting step) t.c.reader t.fed → FedAt (Waiting step) t.c.at t.fed (take t.n t.l.back) t.progress t.at → IsHearing w t
-replied_hearing g w t step b stage attempt r (inl none) had feeds =
-    let size : length (r.fed ++ t.l.back) ≡ 0 = ap length none in
-    absurd (omega (arith, t.some, t.within, size, length-append r.fed t.l.back))
-replied_hearing g w t step b stage attempt r (inr (reply, is, brief, leads)) had feeds = record {
-  step = step;
-  b = b;
-  reply = reply;
-  stage = stage;
-  attempt = attempt;
-  settled = r.settled;
-  brief = brief;
-  leads = leads;
-  piece = hearing g t.c.reader t.c.at t.at step reply r.fed t.fed t.l.back t.n t.progress brief is r.has had feeds;
-}
-
 -- something is on the way
 pub some_way : (l : Connection) (n : ℕ) → 1 ≤ n → n ≤ length l.back → l.back ≡ [] → ⊥
-some_way l n first within none = let size : length l.back ≡ 0 = ap length none in omega (arith, first, within, size)
+some_way l n first within none = grind arith
 
 stage_hearing : OneReply → (w : World) (t : Listens w) (stage : Stage) → t.c.at.stage ≡ stage → IsTrue (is_in_attempt stage)
     → IsConnectionToldAt stage w.begun (side_of w.server t.k) t.l t.c t.d → HasFedAt stage t.c.reader t.fed
     → FedAt stage t.c.at t.fed (take t.n t.l.back) t.progress t.at → IsHearing w t
 stage_hearing g w t (ToSend step) stage inside (b, attempt, turn) had feeds = absurd (some_way t.l t.n t.some t.within turn.back)
 stage_hearing g w t (Waiting step) stage inside (b, attempt, inl asked) had feeds = absurd (some_way t.l t.n t.some t.within asked.back)
-stage_hearing g w t (Waiting step) stage inside (b, attempt, inr replied) had feeds = replied_hearing g w t step b stage attempt replied replied.reply had feeds
+stage_hearing g w t (Waiting step) stage inside (b, attempt, inr r) had feeds = elim r.reply [
+  | inl none ↦ (
+      let size : length (r.fed ++ t.l.back) ≡ 0 = ap length none in
+      absurd (omega (arith, t.some, t.within, size, length-append r.fed t.l.back)))
+  | inr (reply, is, brief, leads) ↦ record {
+    step = step;
+    b = b;
+    reply = reply;
+    stage = stage;
+    attempt = attempt;
+    settled = r.settled;
+    brief = brief;
+    leads = leads;
+    piece = hearing g t.c.reader t.c.at t.at step reply r.fed t.fed t.l.back t.n t.progress brief is r.has had feeds;
+  }
+]
 stage_hearing g w t other stage inside told had feeds = absurd cc
 
 pub own_listens : (w : World) (t : Listens w) → IsOwned w → w.own ≡ Some t.k
@@ -103,12 +92,11 @@ whole_stage : (w : World) (t : Listens w) (h : IsHearing w t) (stage : Stage) �
     → ReceivesAt t.c.at h.step (Reply h.reply) false t.progress t.at
     → IsConnectionToldAt stage w.begun (side_of w.server t.k) (record t.l { back = drop t.n t.l.back }) (caller t.c.number t.at t.reader) t.d
 whole_stage w t h (ToSend next) at has none heard =
-    let g = h.leads t.progress t.at next heard at in (
-      h.b,
-      goes_attempt w.begun t.c t.reader t.at t.d (side_of w.server t.k) h.step next h.b (unlike_close t.c.at t.at h.step next h.reply t.progress heard at) g h.attempt,
-      record { done = g.done; settled = h.settled; back = none; fed = has },
-    )
-whole_stage w t h (Waiting other) at has none heard = absurd (waits_no_more t.c.at t.at t.progress other (heard_as t.c.at t.at _ false t.progress heard) at)
+    let g = h.leads t.progress t.at next heard at in
+    let other = unlike_close t.c.at t.at h.step next h.reply t.progress heard at in
+    let attempt : IsAttempt w.begun (caller t.c.number t.at t.reader) t.d next h.b = (let a = h.attempt in grind (arith, length-append, take_at)) in
+    (h.b, attempt, record { done = g.done; settled = h.settled; back = none; fed = has })
+whole_stage w t h (Waiting other) at has none heard = (let was = heard_as t.c.at t.at _ false t.progress heard in absurd (grind arith))
 whole_stage w t h stage at has none heard = tt
 
 -- what comes of the bytes that it heard
@@ -140,10 +128,8 @@ hears_told g w t on owned told =
           let same : t.l ≡ x = same_Some t.l x (sym t.there ∙ here) in
           let dump : t.d ≡ d = same_Some t.d d (sym t.dump ∙ ap (λ (z : Connection). z.dump) same ∙ is_d) in
           let h = hearing_now g w t owned told in
-          subst (λ (z : WorldClient). IsConnectionToldAt z.at.stage w.begun (side_of w.server t.k) (record x { back = drop t.n x.back }) z d) (same_Some (caller t.c.number t.at t.reader) y now)
-          (subst (λ (z : Connection). IsConnectionToldAt t.at.stage w.begun (side_of w.server t.k) (record z { back = drop t.n z.back }) (caller t.c.number t.at t.reader) d) same
-          (subst (IsConnectionToldAt t.at.stage w.begun (side_of w.server t.k) (record t.l { back = drop t.n t.l.back }) (caller t.c.number t.at t.reader)) dump
-          (hearing_told w t h h.piece))));
+          let heard = hearing_told w t h h.piece in
+          grind arith);
     }) told
 
 -- no count more, or the close comes next
@@ -169,19 +155,13 @@ new_count w t = counts_of w t.c.number t.k (count_to (checkpoint_of t.c.at.count
 
 pub counted_is : (w u : World) (t : Listens w) → u.counts ≡ w.counts ++ told_counts w t → (h : IsHearing w t) (x : Count) → Contains u.counts x
     → Contains w.counts x ⊎ (HasNewCount w t h × (x ≡ new_count w t))
-counted_is w u t counts h x among = by_count (piece_counts w t h h.piece)
-  where
-    by_count : (t.at.counts ≡ t.c.at.counts) ⊎ HasNewCount w t h → Contains w.counts x ⊎ (HasNewCount w t h × (x ≡ new_count w t))
-    by_count (inl same) =
-        let none : drop (length t.c.at.counts) t.at.counts ≡ []
-        = ap (drop (length t.c.at.counts)) (same ∙ sym (append-nil t.c.at.counts)) ∙ drop_front t.c.at.counts [] in
-        inl (subst (λ xs. Contains xs x) (counts ∙ ap (λ cs. w.counts ++ map (counts_of w t.c.number t.k) cs) none ∙ append-nil w.counts) among)
-    by_count (inr new) =
-        let last = count_to (checkpoint_of t.c.at.counts) (t.d.first + t.d.blocks) in
-        let one : drop (length t.c.at.counts) t.at.counts ≡ last ∷ []
-        = ap (drop (length t.c.at.counts)) new.goes.counts ∙ drop_front t.c.at.counts (last ∷ []) in
-        elim (Contains-push_cases w.counts (new_count w t) x
-        (subst (λ xs. Contains xs x) (counts ∙ ap (λ cs. w.counts ++ map (counts_of w t.c.number t.k) cs) one) among)) [
-          | inl before ↦ inl before
-          | inr is ↦ inr (new, sym is)
-        ]
+counted_is w u t counts h x among = elim (piece_counts w t h h.piece) [
+  | inl same ↦ (
+      let none : drop (length t.c.at.counts) t.at.counts ≡ [] = ap (drop (length t.c.at.counts)) (same ∙ sym (append-nil t.c.at.counts)) ∙ drop_front t.c.at.counts [] in
+      inl (subst (λ xs. Contains xs x) (counts ∙ ap (λ cs. w.counts ++ map (counts_of w t.c.number t.k) cs) none ∙ append-nil w.counts) among))
+  | inr new ↦ (
+      let last = count_to (checkpoint_of t.c.at.counts) (t.d.first + t.d.blocks) in
+      let one = ap (drop (length t.c.at.counts)) new.goes.counts ∙ drop_front t.c.at.counts (last ∷ []) in
+      let all = counts ∙ ap (λ cs. w.counts ++ map (counts_of w t.c.number t.k) cs) one in
+      elim (Contains-push_cases w.counts (new_count w t) x (subst (λ xs. Contains xs x) all among)) [ inl before ↦ inl before | inr is ↦ inr (new, sym is) ])
+]
