@@ -1,7 +1,8 @@
 -- On each reel that is there something stands, wherever it is.
 -- On the reel that a session has in its drive stands what is on its tape, and nothing else.
-use Rattle.world_model.proofs.Basics.{◌≡◌, ◌⊎◌, ℕ, zero, suc, ◌<◌, Bool, List, [], ◌∷◌, flat_map, Option, Some, None, refl, ap, ◌∙◌, inl, inr, arith, slice_get, slice_index_or, sum_by, bytes_eq, sum_by-append, same_Some, bytes_eq-Decides, ◌≢◌, ◌≤◌, length, sym, subst, eqb_tells, length-set, sum_by-cons}
+use Rattle.world_model.proofs.Basics.{◌≡◌, ◌⊎◌, ℕ, suc, ◌<◌, List, [], ◌∷◌, flat_map, Option, Some, refl, ap, ◌∙◌, inl, inr, arith, slice_get, slice_index_or, sum_by, sum_by-append, same_Some, bytes_eq-Decides, ◌≢◌, ◌≤◌, length, sym, subst, eqb_tells, length-set, sum_by-cons}
 use Rattle.world_model.proofs.Terms.{PlainEntry, entries_of, KeptReel, ReelSlot, Drive, drive_with, TapeLibrary, drive_at, slots_in, named, times_named, ServerState, ServerConnection, PlainSession, drive_in, Online, side_of, first_name, AreThere, IsFirstAway, online_drive_in, IsOnlineAt, AreHeld, HasReel, ReelLiesIn, HasInDrive, ReelHolds, AreLaid, with_drive_at, EachReelOnce, bit, sum_by_with_drive, Access, PlainReel, ReelLiesOn}
+use Rattle.std.proofs.lemmas.Bool.Decides.{leb_tells}
 use Rattle.world_model.proofs.Laid.{online_drive, drive_other, alone_at, drive_within}
 use Rattle.world_model.proofs.Named.{first_times}
 use Rattle.world_model.proofs.Opened.{names_differ}
@@ -11,28 +12,20 @@ abbrev HasSlot : List (ReelSlot KeptReel) → List ℕ → Type 0
 HasSlot [] name = ⊥
 HasSlot (x ∷ xs) name = (x.name ≡ name) ⊎ HasSlot xs name
 
-slot_first : (xs : List (ReelSlot KeptReel)) (x : ReelSlot KeptReel) (name : List ℕ) (b : Bool) → bytes_eq name x.name ≡ b → (0 < sum_by (named name) xs → HasSlot xs name)
-    → 0 < sum_by (named name) (x ∷ xs) → HasSlot (x ∷ xs) name
-slot_first xs x name b test rest some = grind (arith, bytes_eq-Decides)
-
 slot_among : (xs : List (ReelSlot KeptReel)) (name : List ℕ) → 0 < sum_by (named name) xs → HasSlot xs name
 slot_among [] name some = absurd (let none : sum_by (named {X = KeptReel} name) [] ≡ 0 = refl in omega (arith, some, none))
-slot_among (x ∷ xs) name some = slot_first xs x name (bytes_eq name x.name) refl (slot_among xs name) some
+slot_among (x ∷ xs) name some = grind (arith, bytes_eq-Decides, slot_among xs name)
 
 -- on a stack
-stack_first : (drives : List (Drive KeptReel)) (r : Drive KeptReel) (name : List ℕ) (n : ℕ) → sum_by (named name) r.stack ≡ n
-    → (0 < sum_by (named name) (flat_map (λ x. x.stack) drives) → (d : ℕ) × HasSlot (slice_index_or drives d (drive_with [] [])).stack name)
-    → 0 < sum_by (named name) (flat_map (λ x. x.stack) (r ∷ drives)) → (d : ℕ) × HasSlot (slice_index_or (r ∷ drives) d (drive_with [] [])).stack name
-stack_first drives r name zero none rest some =
-    let all = sum_by-append (named name) r.stack (flat_map (λ x. x.stack) drives) in
-    let on = rest (omega (arith, none, all, some)) in
-    (suc on.0, on.1)
-stack_first drives r name (suc n) here rest some = (0, slot_among r.stack name (omega (arith, here)))
-
 stack_among : (drives : List (Drive KeptReel)) (name : List ℕ) → 0 < sum_by (named name) (flat_map (λ x. x.stack) drives)
     → (d : ℕ) × HasSlot (slice_index_or drives d (drive_with [] [])).stack name
 stack_among [] name some = absurd (slot_among [] name some)
-stack_among (r ∷ drives) name some = stack_first drives r name (sum_by (named name) r.stack) refl (stack_among drives name) some
+stack_among (r ∷ drives) name some = elim (leb_tells 1 (sum_by (named name) r.stack)) [
+  | inl (test, here) ↦ (0, slot_among r.stack name here)
+  | inr (test, none) ↦
+      let on = stack_among drives name (omega (arith, none, some, sum_by-append (named name) r.stack (flat_map (λ x. x.stack) drives))) in
+      (suc on.0, on.1)
+]
 
 -- what lies there
 there_lies : (xs : List (ReelSlot KeptReel)) (name : List ℕ) → HasSlot xs name → AreThere xs → (entries : List PlainEntry) × ReelLiesIn xs name entries
@@ -53,16 +46,11 @@ online_there : (h : ServerState) (k d : ℕ) (s : ServerConnection) (o : Option 
     → online_drive_in s.session ≡ o → IsOnlineAt h d ⊎ (IsOnlineAt h d → ⊥)
 online_there h k d s o a holds at drive is = grind (arith, online_drive)
 
--- a drive that none holds
-none_online : (h : ServerState) (d : ℕ) (o : Option ℕ) → AreHeld h → slice_get h.holders d ≡ o → ((k : ℕ) → o ≡ Some (suc k) → ⊥) → IsOnlineAt h d → ⊥
-none_online h d o a is none given = grind (arith, online_drive)
-
 held_online : (h : ServerState) (d : ℕ) (o : Option ℕ) → AreHeld h → slice_get h.holders d ≡ o → IsOnlineAt h d ⊎ (IsOnlineAt h d → ⊥)
-held_online h d None a is = inr (none_online h d None a is (λ k clash. cc))
-held_online h d (Some zero) a is = inr (none_online h d (Some zero) a is (λ k clash. (let same = same_Some zero (suc k) clash in omega (arith, same))))
 held_online h d (Some (suc k)) a is =
     let s = a.holds k d is in
     online_there h (suc k) d s.0 (online_drive_in s.0.session) a is s.1 s.2 refl
+held_online h d o a is = inr (grind (arith, online_drive))
 
 -- on a stack, or in the drive
 stack_stands : (h : ServerState) (d : ℕ) (name : List ℕ) → AreLaid h → HasSlot (drive_at h.library d).stack name → IsOnlineAt h d ⊎ (IsOnlineAt h d → ⊥)
@@ -73,18 +61,16 @@ stack_stands h d name l has (inl (k, s, at, online)) = elim (away_or_lies (drive
 ]
 stack_stands h d name l has (inr off) = let on = there_lies (drive_at h.library d).stack name has (l.lying d off) in (on.0, inl (inl (d, on.1)))
 
-stack_or_bin : (h : ServerState) (name : List ℕ) (n : ℕ) → sum_by (named name) (flat_map (λ x. x.stack) h.library.drives) ≡ n → AreHeld h → AreLaid h → HasReel h.library name
-    → (entries : List PlainEntry) × ReelHolds h name entries
-stack_or_bin h name zero none a l has =
-    let parts = sum_by-append (named name) (flat_map (λ x. x.stack) h.library.drives) h.library.bin in
-    let on = there_lies h.library.bin name (slot_among h.library.bin name (omega (arith, none, parts, times_named name (slots_in h.library), has))) l.bin in
-    (on.0, inl (inr on.1))
-stack_or_bin h name (suc n) some a l has =
-    let on = stack_among h.library.drives name (omega (arith, some)) in
-    stack_stands h on.0 name l on.1 (held_online h on.0 (slice_get h.holders on.0) a refl)
-
 pub stands_somewhere : (h : ServerState) (name : List ℕ) → AreHeld h → AreLaid h → HasReel h.library name → (entries : List PlainEntry) × ReelHolds h name entries
-stands_somewhere h name a l has = stack_or_bin h name (sum_by (named name) (flat_map (λ x. x.stack) h.library.drives)) refl a l has
+stands_somewhere h name a l has = elim (leb_tells 1 (sum_by (named name) (flat_map (λ x. x.stack) h.library.drives))) [
+  | inl (test, some) ↦
+      let on = stack_among h.library.drives name some in
+      stack_stands h on.0 name l on.1 (held_online h on.0 (slice_get h.holders on.0) a refl)
+  | inr (test, none) ↦
+      let parts = sum_by-append (named name) (flat_map (λ x. x.stack) h.library.drives) h.library.bin in
+      let on = there_lies h.library.bin name (slot_among h.library.bin name (omega (arith, none, parts, times_named name (slots_in h.library), has))) l.bin in
+      (on.0, inl (inr on.1))
+]
 
 -- a reel of that name lies there
 pub lies_times : (xs : List (ReelSlot KeptReel)) (name : List ℕ) (entries : List PlainEntry) → ReelLiesIn xs name entries → 0 < sum_by (named name) xs
@@ -140,11 +126,7 @@ pub stands_one : (h : ServerState) (k : ℕ) (s : ServerConnection) (drive : ℕ
 stands_one h k s drive access reel name entries live online is a l once (inl lies) =
     absurd (lies_nowhere h.library drive name entries once (drive_within h k s drive a live (ap drive_in online)) (l.latched drive (k, s, live, ap online_drive_in online)) is lies)
 stands_one h k s drive access reel name entries live online is a l once (inr (j, y, at, (e, other, r, now, named, holds))) = elim (eqb_tells j k) [
-  | inl (equal, same) ↦
-      let its : y ≡ s = same_Some y s (sym at ∙ ap (side_of h) same ∙ live) in
-      let both : Online e other r ≡ Online drive access reel = sym now ∙ ap (λ (z : ServerConnection). z.session) its ∙ online in
-      let reels : r ≡ reel = cc in
-      sym holds ∙ ap (λ (x : PlainReel). entries_of x.tape) reels
+  | inl (equal, same) ↦ grind (arith, same_Some)
   | inr (unequal, differ) ↦
       let apart : e ≢ drive
       = λ same. alone_at h k s drive a live (ap drive_in online) (j, differ, (y, at, ap drive_in now ∙ ap Some same)) in

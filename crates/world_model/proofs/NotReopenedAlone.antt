@@ -1,15 +1,15 @@
 -- While no foreign session opened the reel of a count since, no session but the count's own wrote on it.
 -- A counted reel is not reopened if nobody opened it since, or only the client's own later attempts did.
-use Rattle.world_model.proofs.Basics.{◌≡◌, ℕ, ◌≤◌, length, take, Some, Contains, sym, ap, ◌∙◌, inl, inr, arith, eqb_tells, same_Some, List, subst}
-use Rattle.world_model.proofs.Terms.{World, AttemptState, Count, Opening, Writing, numbered, opening, HasDump, IsNotReopened, IsUnopenedSince, AreWritersLast, AreTold, AreLateWriters, AreStopped, IsAtStep, Step, Stage, Connection, Begun, WorldClient, side_of, IsAlone, IsConnectionToldAt, OwnOpens, IsWorldKept}
+use Rattle.world_model.proofs.Basics.{◌≡◌, ℕ, ◌+◌, ◌≤◌, length, take, Some, Contains, sym, ap, ◌∙◌, inl, inr, arith, eqb_tells, same_Some, List, subst}
+use Rattle.world_model.proofs.Terms.{World, AttemptState, Count, Writing, opening, HasDump, IsNotReopened, IsUnopenedSince, AreWritersLast, AreTold, AreLateWriters, AreStopped, IsAtStep, Step, Stage, Connection, Begun, WorldClient, side_of, IsAlone, IsConnectionToldAt, OwnOpens, IsWorldKept}
 use Rattle.world_model.proofs.Numbers.{less_or_more, numbered_within, numbered_there, numbered_first}
 use Rattle.world_model.proofs.Opened.{front_in, in_front, last_alone}
 
--- no more was carried out than was sent
-few_carried : (w : World) (k : ℕ) (d : AttemptState) → AreTold w → HasDump w k d → d.carried ≤ d.sent
+-- no more was carried out than was sent, and at most one request fewer
+pub few_carried : (w : World) (k : ℕ) (d : AttemptState) → AreTold w → HasDump w k d → (d.carried ≤ d.sent) × (d.sent ≤ d.carried + 1)
 few_carried w k d told has = elim ((told.each k has.0 has.1).sent d has.2) [
-  | inl settled ↦ (let same = settled.sent in omega (arith, same))
-  | inr (b, step, begun, pending) ↦ (let one = pending.sent in omega (arith, one))
+  | inl settled ↦ (let same = settled.sent in (omega (arith, same), omega (arith, same)))
+  | inr (b, step, begun, pending) ↦ (let one = pending.sent in (omega (arith, one), omega (arith, one)))
 ]
 
 -- A writer that opened the reel later is one of the same run, which was stopped before it could write.
@@ -22,14 +22,13 @@ not_reopened_alone w x told writers late stopped counted (i, at, own_open) y amo
         let front = in_front w.opens y.after i (opening x.connection x.reel) within since at in
         let whole = front_in w.opens y.after m (opening y.connection y.reel) there in
         elim (eqb_tells m i) [
-          | inl (equal, same) ↦ ap (λ (o : Opening). o.connection)
-              (same_Some (opening y.connection y.reel) (opening x.connection x.reel) (sym there ∙ ap (numbered (take y.after w.opens)) same ∙ front))
+          | inl (equal, same) ↦ grind (arith, same_Some)
           | inr (unequal, other) ↦ absurd (elim (less_or_more m i other) [
             | inl less ↦ later i (opening x.connection x.reel) less front (sym its)
             | inr more ↦ (
                 let f = own_open m (opening y.connection y.reel) more whole its in
                 let few = stopped x y.connection f.0 counted (i, at, own_open) (i, m, at, more, whole ∙ ap (λ r. Some (opening y.connection r)) its) f.1 in
-                omega (arith, few, late y f.0 among f.1, few_carried w y.connection f.0 told f.1))
+                omega (arith, few, late y f.0 among f.1, (few_carried w y.connection f.0 told f.1).0))
           ])
         ]
 

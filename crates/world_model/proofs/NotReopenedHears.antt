@@ -1,11 +1,11 @@
 -- What keeps reels of counts spared, when the client hears.
-use Rattle.world_model.proofs.Basics.{◌≡◌, ◌≢◌, ℕ, suc, ◌+◌, ◌<◌, ◌≤◌, true, false, List, [], ◌∷◌, ◌++◌, append_assoc, take, drop, Option, Some, Contains, refl, sym, ap, subst, ◌∙◌, inl, inr, arith, append-nil, take-append-drop, same_Some}
-use Rattle.world_model.proofs.Terms.{ReplyParsesAs, PlainRun, AreVolumes, checkpoint_after, VolumeCount, wanted_of, Reply, Standing, ReceivesAt, FedAt, Makes, IsAtStep, HasFedAt, unanswered, Step, Close, Stage, ToSend, Waiting, Progress, heard_as, AttemptFault, World, Connection, WorldClient, Count, connection_of, opening, without_peer, IsNotReopened, IsClientLawful, AreOpened, AreWritersLast, IsOwned, AreSingle, AreTold, HasOpenedSince, AreStopped, AreListedNow, AreNotReopened, caller}
+use Rattle.world_model.proofs.Basics.{◌≡◌, ◌⊎◌, ◌≢◌, ℕ, suc, ◌+◌, ◌<◌, ◌≤◌, true, false, List, [], ◌∷◌, ◌++◌, append_assoc, take, drop, Option, Some, Contains, refl, sym, ap, subst, ◌∙◌, inl, inr, arith, append-nil, take-append-drop, same_Some}
+use Rattle.world_model.proofs.Terms.{PlainRun, AreVolumes, checkpoint_after, VolumeCount, wanted_of, Reply, Standing, ReceivesAt, FedAt, IsAtStep, HasFedAt, unanswered, Step, Close, Stage, ToSend, Waiting, Progress, heard_as, AttemptFault, World, Connection, WorldClient, Count, connection_of, opening, without_peer, IsNotReopened, IsClientLawful, AreOpened, AreWritersLast, IsOwned, AreSingle, AreTold, HasOpenedSince, AreListedNow, AreNotReopened, caller}
 use Rattle.world_model.proofs.Ground.{changed_is, OneReply, one_heard, brief_begins, Listens, told_counts, is_over}
 use Rattle.world_model.proofs.SentTexts.{volumes_from}
 use Rattle.world_model.proofs.ToldHears.{HearsPiece, waits, whole, unlike_close, IsHearing, hearing_now, own_listens, HasNewCount, new_count, counted_is, becomes_counts}
 use Rattle.world_model.proofs.Moves as move
-use Rattle.world_model.proofs.NotReopenedQuiet.{SameOpens, DumpsStay, changed_dumps, quiet_back, quiet_not_reopened, quiet_since, quiet_late, quiet_stopped}
+use Rattle.world_model.proofs.NotReopenedQuiet.{changed_dumps, quiet_spared}
 
 -- the volumes of a list come before that of its checkpoint
 not_before : (run : PlainRun) (volume first : ℕ) (counts : List VolumeCount) → AreVolumes run volume first counts
@@ -34,17 +34,6 @@ new_unopened w t h new own volumes single listed x is (j, at, own_open) k (i, m,
     let before = before_checkpoint t.c.at.run 1 0 t.c.at.counts c volumes (subst (λ l. Contains l c) same among) in
     omega (arith, before, volume, number)
 
--- one text is fed in two pieces, or in others
-fed_text : (step : Step) (old new : Standing) (fed way other more : List ℕ) (progress : Progress) → fed ++ way ≡ other ++ more
-    → FedAt (Waiting step) old fed way progress new → FedAt (Waiting step) old other more progress new
-fed_text step old new fed way other more progress is (seen, rest, gives, makes) = (
-  seen,
-  rest,
-  subst (λ bytes. ReplyParsesAs (Some (wanted_of step)) bytes seen rest) is gives,
-  subst (λ bytes. Makes old step bytes seen rest progress new) is
-      makes,
-)
-
 -- nothing more comes
 stays_put : (stage : Stage) (old new : Standing) (fed : List ℕ) (progress : Progress) → ((step : Step) → stage ≡ Waiting step → ⊥)
     → FedAt stage old fed [] progress new → new ≡ old
@@ -64,11 +53,8 @@ heard_past w t h fed progress new (waits moves is text) had feeds =
     let bytes : fed ++ drop t.n t.l.back ≡ t.fed ++ t.l.back
     = grind (arith, append_assoc, take-append-drop) in
     let on : FedAt (Waiting h.step) t.c.at fed (drop t.n t.l.back) progress new
-    = subst (λ z. FedAt (Waiting h.step) z fed (drop t.n t.l.back) progress new) is (subst (λ s. FedAt s t.at fed (drop t.n t.l.back) progress new) at feeds) in (
-      progress,
-      subst (λ s. FedAt s t.c.at t.fed t.l.back progress new) (sym h.stage)
-          (fed_text h.step t.c.at new fed (drop t.n t.l.back) t.fed t.l.back progress bytes on),
-    )
+    = subst (λ z. FedAt (Waiting h.step) z fed (drop t.n t.l.back) progress new) is (subst (λ s. FedAt s t.at fed (drop t.n t.l.back) progress new) at feeds) in
+    (progress, subst (λ s. FedAt s t.c.at t.fed t.l.back progress new) (sym h.stage) (grind arith))
 heard_past w t h fed progress new (whole spelled none heard) had feeds =
     let put = stays_put t.at.stage t.at new fed progress (grind arith)
     (subst (λ way. FedAt t.at.stage t.at fed way progress new) none feeds) in
@@ -76,89 +62,56 @@ heard_past w t h fed progress new (whole spelled none heard) had feeds =
     = sym (append-nil (take t.n t.l.back)) ∙ ap (λ l. take t.n t.l.back ++ l) (sym none) ∙ take-append-drop t.n t.l.back in grind arith
 
 -- where it is at a step before the close it was so before, with the same counts
-record WasAtStep (w : World) (t : Listens w) : Type 0 where
-  step : Step
-  at : IsAtStep t.c.at.stage step
-  other : step ≢ Close
-  counts : t.at.counts ≡ t.c.at.counts
+abbrev WasAtStep : (w : World) → Listens w → Type 0
+WasAtStep w t = (step : Step) × IsAtStep t.c.at.stage step × (step ≢ Close) × (t.at.counts ≡ t.c.at.counts)
 
 went_on : (w : World) (t : Listens w) (h : IsHearing w t) (stage : Stage) (step : Step) → t.at.stage ≡ stage → IsAtStep stage step → step ≢ Close
     → ReceivesAt t.c.at h.step (Reply h.reply) false t.progress t.at → WasAtStep w t
-went_on w t h (ToSend next) step stage at other heard = record {
-  step = h.step;
-  at = subst (λ s. IsAtStep s h.step) (sym h.stage) refl;
-  other = unlike_close t.c.at t.at h.step next h.reply t.progress heard stage;
-  counts = elim (becomes_counts t.c.at t.at t.progress (heard_as t.c.at t.at _ false t.progress heard)) [
-    | inl same ↦ same
-    | inr close ↦ (
-        let both : ToSend next ≡ ToSend Close = sym stage ∙ close in
-        let same : next ≡ Close = cc in
-        absurd (other (at ∙ same)))
-  ];
-}
-went_on w t h (Waiting next) step stage at other heard =
-    absurd ((grind arith))
+went_on w t h (ToSend next) step stage at other heard =
+    let counts : t.at.counts ≡ t.c.at.counts = elim (becomes_counts t.c.at t.at t.progress (heard_as t.c.at t.at _ false t.progress heard)) [
+      | inl same ↦ same
+      | inr close ↦ grind arith
+    ] in
+    (h.step, subst (λ s. IsAtStep s h.step) (sym h.stage) refl, unlike_close t.c.at t.at h.step next h.reply t.progress heard stage, counts)
+went_on w t h (Waiting next) step stage at other heard = grind arith
 went_on w t h rest step stage at other heard = absurd at
 
 was_at_step : (w : World) (t : Listens w) (h : IsHearing w t) (step : Step)
     → HearsPiece t.c.at h.step h.reply (t.fed ++ take t.n t.l.back) (drop t.n t.l.back) t.progress t.at
     → IsAtStep t.at.stage step → step ≢ Close → WasAtStep w t
-was_at_step w t h step (waits moves is text) at other = record {
-  step = step;
-  at = subst (λ (z : Standing). IsAtStep z.stage step) is at;
-  other = other;
-  counts = ap (λ (z : Standing). z.counts) is;
-}
+was_at_step w t h step (waits moves is text) at other = grind arith
 was_at_step w t h step (whole spelled none heard) at other = went_on w t h t.at.stage step refl at other heard
 
--- of each count that is there then, whoever opened its reel since was stopped
-heard_stopped : OneReply → (w u : World) (t : Listens w) → SameOpens w u → DumpsStay w u → u.counts ≡ w.counts ++ told_counts w t → IsOwned w → IsClientLawful w
-    → AreTold w → AreSingle w → AreOpened w → AreNotReopened w → AreStopped u
-heard_stopped g w u t s stay counts owned lawful told single opened p x k d counted not_reopened since has =
-    elim (counted_is w u t counts (hearing_now g w t owned told) x counted) [
-      | inl before ↦ quiet_stopped w u s stay opened p.stopped x k d before not_reopened since has
-      | inr (new, is) ↦
-          absurd (new_unopened w t (hearing_now g w t owned told) new (own_listens w t owned) (lawful t.c t.client).counts single p.listed x is
-          (quiet_not_reopened w u s (quiet_back w u s stay) opened x not_reopened) k (quiet_since w u s x k since))
-    ]
-
-heard_dumps : (w : World) (t : Listens w) (on : is_over t.progress ≡ false) → DumpsStay w (move.moved w (move.hears t on))
-heard_dumps w t on = changed_dumps (λ l. record l { back = drop t.n l.back }) (λ x. refl) w (move.moved w (move.hears t on)) t.k refl
+-- a count that is there then was there, or nobody opened its reel since
+heard_counts : (w u : World) (t : Listens w) (h : IsHearing w t) → u.counts ≡ w.counts ++ told_counts w t → w.own ≡ Some t.k → IsClientLawful w → AreSingle w
+    → AreListedNow w
+    → (x : Count) → Contains u.counts x → IsNotReopened w x → Contains w.counts x ⊎ ((k : ℕ) → HasOpenedSince w x k → ⊥)
+heard_counts w u t h counts own lawful single listed x counted not_reopened = elim (counted_is w u t counts h x counted) [
+  | inl before ↦ inl before
+  | inr (new, is) ↦ inr (new_unopened w t h new own (lawful t.c t.client).counts single listed x is not_reopened)
+]
 
 -- it goes on
 pub heard_not_reopened : OneReply → (w : World) (t : Listens w) (on : is_over t.progress ≡ false) → IsOwned w → IsClientLawful w → AreTold w → AreSingle w → AreOpened w
     → AreWritersLast w → AreNotReopened w → AreNotReopened (move.moved w (move.hears t on))
-heard_not_reopened g w t on owned lawful told single opened writers p = record {
-  paired = p.paired;
-  late = quiet_late w u s stay opened writers p.late;
-  stopped = heard_stopped g w u t s stay refl owned lawful told single opened p;
-  listed = λ k i m c step o list mine there at other opens its from lists. (
-      let is : caller t.c.number t.at t.reader ≡ c = same_Some _ c there in
-      let was = was_at_step w t h step h.piece (subst (λ (z : WorldClient). IsAtStep z.at.stage step) (sym is) at) other in
-      p.listed k i m t.c was.step o list mine t.client was.at was.other opens its from lists ∙ sym was.counts ∙ ap (λ (z : WorldClient). z.at.counts) is);
-  looked = λ k l c fed progress new x mine at there had feeds goes counted not_reopened since. elim (counted_is w u t refl h x counted) [
-    | inl before ↦ (
-        let is : caller t.c.number t.at t.reader ≡ c = same_Some _ c there in
-        let back = back_is k l mine at in
-        let its = heard_past w t h fed progress new h.piece (subst (λ (z : WorldClient). HasFedAt z.at.stage z.reader fed) (sym is) had)
-        (subst (λ way. FedAt t.at.stage t.at fed way progress new) back (subst (λ (z : WorldClient). FedAt z.at.stage z.at fed l.back progress new) (sym is)
-        feeds)) in
-        p.looked t.k t.l t.c t.fed its.0 new x own t.there t.client t.had its.1 goes before (quiet_not_reopened w u s (quiet_back w u s stay) opened x not_reopened)
-        (subst (HasOpenedSince w x) (same_Some k t.k (sym mine ∙ own)) since))
-    | inr (new, is) ↦
-        new_unopened w t h new own (lawful t.c t.client).counts single p.listed x is (quiet_not_reopened w u s (quiet_back w u s stay) opened x not_reopened) k
-        (quiet_since w u s x k since)
-  ];
-}
+heard_not_reopened g w t on owned lawful told single opened writers p =
+    quiet_spared w u record { opens = refl; lists = refl; writings = refl }
+    (changed_dumps (λ l. record l { back = drop t.n l.back }) (λ x. refl) w u t.k refl) opened writers p
+    (heard_counts w u t h refl own lawful single p.listed)
+    (λ k i m c step o list mine there at other opens its from lists. (
+    let is : caller t.c.number t.at t.reader ≡ c = same_Some _ c there in
+    let (was, there, before, counts) = was_at_step w t h step h.piece (subst (λ (z : WorldClient). IsAtStep z.at.stage step) (sym is) at) other in
+    p.listed k i m t.c was o list mine t.client there before opens its from lists ∙ sym counts ∙ ap (λ (z : WorldClient). z.at.counts) is))
+    (λ k l c fed progress new x mine at there had feeds goes counted not_reopened since. (
+    let is : caller t.c.number t.at t.reader ≡ c = same_Some _ c there in
+    let its = heard_past w t h fed progress new h.piece (subst (λ (z : WorldClient). HasFedAt z.at.stage z.reader fed) (sym is) had)
+    (subst (λ way. FedAt t.at.stage t.at fed way progress new) (back_is k l mine at)
+    (subst (λ (z : WorldClient). FedAt z.at.stage z.at fed l.back progress new) (sym is) feeds)) in
+    p.looked t.k t.l t.c t.fed its.0 new x own t.there t.client t.had its.1 goes counted not_reopened
+    (subst (HasOpenedSince w x) (same_Some k t.k (sym mine ∙ own)) since)))
   where
     u : World
     u = move.moved w (move.hears t on)
-
-    s : SameOpens w u
-    s = record { opens = refl; lists = refl; writings = refl }
-
-    stay : DumpsStay w u
-    stay = heard_dumps w t on
 
     h : IsHearing w t
     h = hearing_now g w t owned told
@@ -175,19 +128,9 @@ heard_not_reopened g w t on owned lawful told single opened writers p = record {
 -- its attempt is over then
 pub heard_last_not_reopened : OneReply → (w : World) (t : Listens w) (failure : Option (ℕ × AttemptFault)) (over : is_over t.progress ≡ true) → IsOwned w
     → IsClientLawful w → AreTold w → AreSingle w → AreOpened w → AreWritersLast w → AreNotReopened w → AreNotReopened (move.moved w (move.hears_last t failure over))
-heard_last_not_reopened g w t failure over owned lawful told single opened writers p = record {
-  paired = p.paired;
-  late = quiet_late w u s stay opened writers p.late;
-  stopped = heard_stopped g w u t s stay refl owned lawful told single opened p;
-  listed = λ k i m c step o list mine there at other opens its from lists. absurd cc;
-  looked = λ k l c fed progress new x mine at there had feeds goes counted not_reopened since. absurd cc;
-}
-  where
-    u : World
-    u = move.moved w (move.hears_last t failure over)
-
-    s : SameOpens w u
-    s = record { opens = refl; lists = refl; writings = refl }
-
-    stay : DumpsStay w u
-    stay = changed_dumps without_peer (λ x. refl) w u t.k refl
+heard_last_not_reopened g w t failure over owned lawful told single opened writers p =
+    let u = move.moved w (move.hears_last t failure over) in
+    quiet_spared w u record { opens = refl; lists = refl; writings = refl } (changed_dumps without_peer (λ x. refl) w u t.k refl) opened writers p
+    (heard_counts w u t (hearing_now g w t owned told) refl (own_listens w t owned) lawful single p.listed)
+    (λ k i m c step o list mine there at other opens its from lists. absurd cc)
+    (λ k l c fed progress new x mine at there had feeds goes counted not_reopened since. absurd cc)

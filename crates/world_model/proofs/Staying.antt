@@ -49,7 +49,7 @@ not_reopened_moved r h g w (serves v) a owned lawful after = record {
   listed = served_listed w v a.not_reopened.paired a.not_reopened.listed;
   looked = served_looked r h g w v a owned lawful after.told after.earned after.single;
 }
-not_reopened_moved r h g w (asks t) a owned lawful after = asked_not_reopened w t owned a.told a.opened a.not_reopened
+not_reopened_moved r h g w (asks t) a owned lawful after = asked_not_reopened w t owned a.told a.opened a.writers a.not_reopened
 not_reopened_moved r h g w (hears t on) a owned lawful after = heard_not_reopened g w t on owned lawful a.told a.single a.opened a.writers a.not_reopened
 not_reopened_moved r h g w (hears_last t failure over) a owned lawful after =
     heard_last_not_reopened g w t failure over owned lawful a.told a.single a.opened a.writers a.not_reopened

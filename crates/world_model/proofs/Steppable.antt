@@ -1,7 +1,7 @@
 -- A client can take any bytes and the end of a connection, and readers can keep any bytes.
 -- In a world where all is kept each possible event has a step.
-use Rattle.world_model.proofs.Basics.{◌≡◌, ◌⊎◌, IsTrue, ℕ, ◌<◌, ◌≤◌, false, List, [], ◌∷◌, ◌++◌, length, append_assoc, length-append, Option, Some, None, Result, Ok, Err, refl, ap, ◌∙◌, inl, inr, arith, take-append-drop, take-append-le, drop-append-le, Bool, true, take, drop, sym, subst}
-use Rattle.world_model.proofs.Terms.{line_feed, PlainReply, Wanted, ReplyParsesAs, reply_held, IsDroppedLine, RequestHeld, held, Unread, UnreadAt, WireFault, READER_LIMIT, wanted_of, IsReaderWaiting, is_more, Standing, FedAt, CutAt, Progress, Stage, ToSend, Waiting, Step, IsAtRest, outcome_can, is_in_attempt, PlainRequest, reply_text, ReplyHeld, ServerConnection, session_view, drive_in, with_holder, Trouble, HasFedAt, unanswered, over_can, World, Connection, AttemptState, WorldClient, Kept, PlainEvent, StartRun, Connect, Send, ToServer, Serve, ToClient, EndAtClient, ClientRestart, Respond, Arrange, Enter, Save, side_of, connection_of, IsWorldKept, Possible, IsConnectionToldAt, Happens, Sends, Finds, Hears, SeesEnd, ResumesRun, is_failing}
+use Rattle.world_model.proofs.Basics.{◌≡◌, IsTrue, ℕ, ◌<◌, ◌≤◌, false, List, [], ◌∷◌, ◌++◌, length, append_assoc, length-append, Option, Some, None, Result, Ok, Err, refl, ap, ◌∙◌, inl, inr, arith, take-append-drop, take-append-le, drop-append-le, Bool, true, take, drop, sym, subst}
+use Rattle.world_model.proofs.Terms.{PlainReply, Wanted, ReplyParsesAs, reply_held, IsDroppedLine, RequestHeld, held, Unread, UnreadAt, WireFault, READER_LIMIT, wanted_of, IsReaderWaiting, is_more, Standing, FedAt, CutAt, Progress, Stage, ToSend, Waiting, Step, IsAtRest, outcome_can, is_in_attempt, PlainRequest, reply_text, ReplyHeld, ServerConnection, session_view, Trouble, HasFedAt, unanswered, over_can, World, Connection, AttemptState, WorldClient, Kept, PlainEvent, StartRun, Connect, Send, ToServer, Serve, ToClient, EndAtClient, ClientRestart, Respond, Arrange, Enter, Save, side_of, connection_of, IsWorldKept, Possible, IsConnectionToldAt, Happens, Sends, Finds, Hears, SeesEnd, ResumesRun, is_failing}
 use Rattle.rmt_wire.specs.ReplyFront.{kept_of}
 use Rattle.rmt_wire.specs.RequestReader.{dropped_line}
 use Rattle.world_model.proofs.SentWire.{DroppedWrites, no_more_kept, brief_begins}
@@ -21,50 +21,26 @@ cut_can old (Waiting step) under = outcome_can old _ false
 cut_can old stage under = absurd cc
 
 -- fewer bytes than a reader takes were fed to a client that waits: it waits on, or is at rest
-pub waits_can : SomeAnswer → (old : Standing) (step : Step) (fed piece : List ℕ) → length (fed ++ piece) < READER_LIMIT
-    → (progress : Progress) × (new : Standing) × FedAt (Waiting step) old fed piece progress new
-    × (((new ≡ old) × IsReaderWaiting (wanted_of step) (reply_held (Some (wanted_of step)) (kept_of (fed ++ piece))) (fed ++ piece)) ⊎ IsAtRest new.stage)
-waits_can g old step fed piece short = of_answer (g (Some (wanted_of step)) (fed ++ piece))
-  where
-    of_answer : (answer : Result (Option PlainReply) WireFault) × (rest : List ℕ) × ReplyParsesAs (Some (wanted_of step)) (fed ++ piece) answer rest
-        → (progress : Progress) × (new : Standing) × FedAt (Waiting step) old fed piece progress new
-        × (((new ≡ old) × IsReaderWaiting (wanted_of step) (reply_held (Some (wanted_of step)) (kept_of (fed ++ piece))) (fed ++ piece)) ⊎ IsAtRest new.stage)
-    of_answer (Ok None, rest, gives) = (
-      moved.Waiting,
-      old,
-      (Ok None, rest, gives, (refl, refl)),
-      inl (
-        refl,
-        record {
-          unread = record { waits = refl; keeps = refl };
-          begun = (gives.0, gives.1, refl);
-          room = (let less = no_more_kept (fed ++ piece) in omega (arith, less, short));
-        },
-      ),
-    )
-    of_answer (Ok (Some reply), rest, gives) =
-        let h = outcome_can old _ (is_more rest) in
-        (h.0, h.1, (Ok (Some reply), rest, gives, h.2), inr h.3)
-    of_answer (Err fault, rest, gives) =
-        let h = outcome_can old _ false in
-        (h.0, h.1, (Err fault, rest, gives, h.2), inr h.3)
+waits_can : (old : Standing) (step : Step) (fed piece : List ℕ) → old.stage ≡ Waiting step → length (fed ++ piece) < READER_LIMIT
+    → (answer : Result (Option PlainReply) WireFault) × (rest : List ℕ) × ReplyParsesAs (Some (wanted_of step)) (fed ++ piece) answer rest
+    → (progress : Progress) × (new : Standing) × (reader : ReplyHeld) × FedAt (Waiting step) old fed piece progress new
+    × HasFedAt new.stage reader (unanswered new.stage (fed ++ piece))
+waits_can old step fed piece is short (Ok None, rest, gives) =
+    let reader = reply_held (Some (wanted_of step)) (kept_of (fed ++ piece)) in
+    let has : HasFedAt (Waiting step) reader (fed ++ piece) = grind (arith, no_more_kept) in
+    (moved.Waiting, old, reader, (Ok None, rest, gives, (refl, refl)), subst (λ s. HasFedAt s reader (unanswered s (fed ++ piece))) (sym is) has)
+waits_can old step fed piece is short (Ok (Some reply), rest, gives) =
+    let h = outcome_can old _ (is_more rest) in
+    (h.0, h.1, reply_held None [], (Ok (Some reply), rest, gives, h.2), h.3.fed (fed ++ piece))
+waits_can old step fed piece is short (Err fault, rest, gives) =
+    let h = outcome_can old _ false in
+    (h.0, h.1, reply_held None [], (Err fault, rest, gives, h.2), h.3.fed (fed ++ piece))
 
-not_empty : (seen later : List ℕ) (byte : ℕ) → [] ≡ seen ++ byte ∷ later → ⊥
-not_empty [] later byte is = cc
-not_empty (b ∷ seen) later byte is = cc
-
-pub asks_can : SomeAnswer → (wanted : Wanted) → IsReaderWaiting wanted (reply_held (Some wanted) (kept_of [])) []
-asks_can g wanted = of_answer (g (Some wanted) [])
-  where
-    of_answer : (answer : Result (Option PlainReply) WireFault) × (rest : List ℕ) × ReplyParsesAs (Some wanted) [] answer rest
-        → IsReaderWaiting wanted (reply_held (Some wanted) (kept_of [])) []
-    of_answer (Ok None, rest, gives) = record {
-      unread = record { waits = refl; keeps = refl };
-      begun = (gives.0, gives.1, refl);
-      room = (let less = no_more_kept [] in omega (arith, less));
-    }
-    of_answer (Ok (Some reply), rest, (text, spelled, is)) = absurd ((grind arith))
-    of_answer (Err fault, rest, (f, none, same)) = absurd (not_empty f.seen f.later f.byte f.split)
+asks_can : (wanted : Wanted) → (answer : Result (Option PlainReply) WireFault) × (rest : List ℕ) × ReplyParsesAs (Some wanted) [] answer rest
+    → IsReaderWaiting wanted (reply_held (Some wanted) (kept_of [])) []
+asks_can wanted (Ok None, rest, gives) = grind (arith, no_more_kept)
+asks_can wanted (Ok (Some reply), rest, (text, spelled, is)) = absurd (grind arith)
+asks_can wanted (Err fault, rest, (f, none, same)) = absurd (omega (arith, ap length f.split, length-append f.seen (f.byte ∷ f.later)))
 
 pub held_can : (bytes : List ℕ) → Unread (held bytes 0) bytes
 held_can bytes = (grind (arith, take-append-drop))
@@ -73,16 +49,6 @@ held_can bytes = (grind (arith, take-append-drop))
 line_within : (bytes : List ℕ) (line : ℕ × ℕ) → IsDroppedLine bytes line.0 line.1 → line.0 ≤ length bytes
 line_within bytes line d = grind (arith, length-append)
 
-line_still : (bytes piece : List ℕ) (line : ℕ × ℕ) → IsDroppedLine bytes line.0 line.1 → IsDroppedLine (bytes ++ piece) line.0 line.1
-line_still bytes piece line d = record {
-  number = d.number;
-  rest = d.rest ++ piece;
-  spelled = d.spelled;
-  large = d.large;
-  split = ap (λ l. l ++ piece) d.split ∙ ap (λ l. 87 ∷ l) (append_assoc d.number (line_feed ∷ d.rest) piece);
-  long = d.long;
-}
-
 -- a piece follows what was unread
 pushed_at : DroppedWrites → (h : RequestHeld) (piece bytes : List ℕ) (o : Option (ℕ × ℕ)) → dropped_line h.kept ≡ o → UnreadAt o h bytes
     → Unread (held (h.kept ++ piece) h.dropped) (bytes ++ piece)
@@ -90,7 +56,7 @@ pushed_at g h piece bytes None is (none, same) = grind (arith, held_can)
 pushed_at g h piece bytes (Some line) is (gone, many, few, same) =
     let d = (g h.kept line.0 line.1).0 is in
     let within = line_within h.kept line d in
-    let still : dropped_line (h.kept ++ piece) ≡ Some line = (g (h.kept ++ piece) line.0 line.1).1 (line_still h.kept piece line d) in
+    let still : dropped_line (h.kept ++ piece) ≡ Some line = (g (h.kept ++ piece) line.0 line.1).1 (grind (arith, append_assoc)) in
     grind (arith, append_assoc, drop-append-le, take-append-le)
 
 pub pushed_can : DroppedWrites → (h : RequestHeld) (piece bytes : List ℕ) → Unread h bytes → Unread (held (h.kept ++ piece) h.dropped) (bytes ++ piece)
@@ -98,24 +64,13 @@ pushed_can g h piece bytes unread = pushed_at g h piece bytes (dropped_line h.ke
 
 sends_can : SomeAnswer → (failing : Bool) (w : World) (k : ℕ) (c : WorldClient) (payload : List (List ℕ)) (step : Step) → (u : World) × Sends failing w k c payload step u
 sends_can g true w k c payload step = (_, (reply_held None [], refl))
-sends_can g false w k c payload step = (_, (reply_held (Some (wanted_of step)) (kept_of []), asks_can g (wanted_of step), refl))
+sends_can g false w k c payload step = (_, (reply_held (Some (wanted_of step)) (kept_of []), asks_can (wanted_of step) (g (Some (wanted_of step)) []), refl))
 
 finds_can : (w : World) (k : ℕ) (trouble : Trouble) (s : ServerConnection) (found : Result (Option PlainRequest) WireFault) (rest : List ℕ) → (found ≡ Ok None → ⊥)
     → (u : World) × Finds w k trouble s found rest u
 finds_can w k trouble s (Ok (Some request)) rest some =
-    let v = serve_can trouble w.server.holders (session_view w.server.library s.session) request in (
-      _,
-      (
-        v.0,
-        held rest 0,
-        v.1.library,
-        v.1.session,
-        with_holder (drive_in v.1.session) k (with_holder (drive_in s.session) 0 w.server.holders),
-        held_can rest,
-        record { step = v.2; held = refl },
-        refl,
-      ),
-    )
+    let v = serve_can trouble w.server.holders (session_view w.server.library s.session) request in
+    (_, (v.0, held rest 0, v.1.library, v.1.session, _, held_can rest, record { step = v.2; held = refl }, refl))
 finds_can w k trouble s found rest some = grind arith
 
 -- the client of a live connection of the client's
@@ -130,39 +85,17 @@ hears_at : SomeAnswer → (w : World) (l : Connection) (k n : ℕ) (d : AttemptS
     → n ≤ length l.back → IsConnectionToldAt stage w.begun (side_of w.server k) l c d
     → (fed : List ℕ) × (at : Standing) × (reader : ReplyHeld) × (progress : Progress) × HasFedAt stage c.reader fed × FedAt stage c.at fed (take n l.back) progress at
     × HasFedAt at.stage reader (unanswered at.stage (fed ++ take n l.back))
-hears_at g w l k n d c (ToSend step) is attempt some within (b, mine, turn) =
-    let none = ap length turn.back in absurd (omega (arith, none, some, within))
-hears_at g w l k n d c (Waiting step) is attempt some within (b, mine, inl asked) =
-    let none = ap length asked.back in absurd (omega (arith, none, some, within))
+hears_at g w l k n d c (ToSend step) is attempt some within (b, mine, turn) = grind arith
+hears_at g w l k n d c (Waiting step) is attempt some within (b, mine, inl asked) = grind arith
 hears_at g w l k n d c (Waiting step) is attempt some within (b, mine, inr replied) = elim replied.reply [
   | inl nothing ↦ (
       absurd (omega (arith, ap length nothing, length-append replied.fed l.back, some, within)))
   | inr (reply, text, brief, leads) ↦
       let bytes : reply_text reply ≡ (replied.fed ++ take n l.back) ++ drop n l.back
       = sym text ∙ ap (λ x. replied.fed ++ x) (sym (take-append-drop n l.back)) ∙ sym (append_assoc replied.fed (take n l.back) (drop n l.back)) in
-      let heard = waits_can g c.at step replied.fed (take n l.back)
-      (brief_begins (wanted_of step) reply (replied.fed ++ take n l.back) (drop n l.back) brief bytes).1 in
-      elim heard.3 [
-        | inl (same, waits) ↦ (
-          replied.fed,
-          heard.1,
-          reply_held (Some (wanted_of step)) (kept_of (replied.fed ++ take n l.back)),
-          heard.0,
-          replied.has,
-          heard.2,
-          subst (λ s. HasFedAt s (reply_held (Some (wanted_of step)) (kept_of (replied.fed ++ take n l.back))) (unanswered s (replied.fed ++ take n l.back)))
-              (sym (ap (λ (x : Standing). x.stage) same ∙ is)) waits,
-        )
-        | inr rests ↦ (
-          replied.fed,
-          heard.1,
-          reply_held None [],
-          heard.0,
-          replied.has,
-          heard.2,
-          rests.fed (replied.fed ++ take n l.back),
-        )
-      ]
+      let heard = waits_can c.at step replied.fed (take n l.back) is (brief_begins (wanted_of step) reply (replied.fed ++ take n l.back) (drop n l.back) brief bytes).1
+      (g (Some (wanted_of step)) (replied.fed ++ take n l.back)) in
+      (replied.fed, heard.1, heard.2, heard.0, replied.has, heard.3, heard.4)
 ]
 hears_at g w l k n d c stage is attempt some within told = absurd cc
 
