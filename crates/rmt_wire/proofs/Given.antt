@@ -1,15 +1,8 @@
 -- The requests that a reader has given of all that was pushed to it, and what it holds once more bytes came.
-use Rattle.std.proofs.Common.{⊎_elim, ◌≡◌, ℕ, List, [], ◌∷◌, ◌++◌, length, Option, Some, None, Result, Ok, Err, refl, sym, ap, subst, ◌∙◌, append_assoc, append-nil, ◌+◌, ◌<◌, arith, take, drop}
-use Rattle.std.proofs.lemmas.Grind.{flat_map-append}
-use Rattle.std.proofs.KnownBytes.{Appends-trans}
-use Rattle.std.specs.List.{flat_map}
-use Rattle.std.specs.Io.KnownBytes.{Appends, Consumes, Keeps}
-use Rattle.std.proofs.lemmas.List.{nil_from_length}
-use Rattle.std.proofs.lemmas.Bool.{cases_lt}
-use Rattle.rmt_wire.proofs.WriteLines.{known_pushed}
+use Rattle.rmt_wire.proofs.Words.{zero-add, Err, List, None, Ok, Option, Result, Some, [], ap, append-nil, append_assoc, arith, drop, length, refl, subst, sym, take, ℕ, ⊎_elim, ◌++◌, ◌+◌, ◌<◌, ◌∙◌, ◌∷◌, ◌≡◌, Appends-trans, cases_lt, flat_map-append, nil_from_length, Appends, Consumes, Keeps, flat_map, PlainRequest, Spelled, taken_of, RequestHeld, held, IsDropped, Unread, IsNext, IsGiven, Continues, LeavesRoom, Shrinks, StaysUnlessGiven, KeepsGiving, dropped_line, IsKnown, HasDiscarded, idle, HasRoom, IsFilled, AppendsBeginning, WireFault, READER_LIMIT}
 use Rattle.rmt_wire.proofs.Spelling.{beginning_past_first}
-use Rattle.rmt_wire.proofs.Words.{IsDropped, dropped_line, IsKnown, AppendsBeginning, PlainRequest, Spelled, RequestHeld, Continues, LeavesRoom, Shrinks, StaysUnlessGiven, KeepsGiving, IsNext, held, Unread, IsGiven, taken_of, WireFault, idle, HasRoom, HasDiscarded, READER_LIMIT, IsFilled}
-use Rattle.rmt_wire.proofs.Dropped.{push_dropped, push_unread, taken_kept}
+use Rattle.rmt_wire.proofs.WriteLines.{known_pushed}
+use Rattle.rmt_wire.proofs.Dropped.{taken_kept, push_unread, push_dropped}
 
 -- more bytes change no whole request
 pub spelled_more : (bytes rest more : List ℕ) (requests : List PlainRequest) → Spelled bytes requests rest → Spelled (bytes ++ more) requests (rest ++ more)
@@ -72,18 +65,11 @@ module _ (kept piece items : List ℕ) (dropped : ℕ) (is : items ≡ kept ++ p
 
 -- what came stands after what is kept at the front
 pub at_front : (old moved came items : List ℕ) (start : ℕ) → moved ≡ take 0 old ++ drop (0 + start) old → items ≡ moved ++ came → items ≡ drop start old ++ came
-at_front old moved came items start m is =
-    let same : 0 + start ≡ start = omega arith in
-    is ∙ ap (λ l. l ++ came) (m ∙ ap (λ n. drop n old) same)
+at_front old moved came items start m is = rw zero-add at (rw m at is)
 
 -- nothing was read
-nothing_kept : (left left' : Option (List ℕ)) → Consumes left left' [] → Keeps left left'
-nothing_kept None left' p = tt
-nothing_kept (Some xs) None p = absurd p
-nothing_kept (Some xs) (Some ys) p = sym p
-
 pub nothing_came : (left left' : Option (List ℕ)) (came : List ℕ) → length came ≡ 0 → Consumes left left' came → Keeps left left'
-nothing_came left left' came e p = nothing_kept left left' (subst (Consumes left left') (nil_from_length came e) p)
+nothing_came left left' came e p = grind (arith, nil_from_length came e)
 
 -- where none came, the bytes kept are those that were
 pub none_more : (kept came items : List ℕ) → length came ≡ 0 → items ≡ kept ++ came → items ≡ kept
@@ -94,13 +80,12 @@ pub filled_with_none : (left left' : Option (List ℕ)) (old new : RequestHeld) 
     → IsFilled left left' old new count
 filled_with_none left left' old new came count same z long consumed =
     let none : came ≡ [] = nil_from_length came (long ∙ z) in
-    subst (λ h. IsFilled left left' old h count) (sym same)
-    (record {
+    rw same (record {
       came = came;
       long = long;
       consumed = consumed;
-      unread = λ bytes u. subst (Unread old) (sym (ap (λ l. bytes ++ l) none ∙ append-nil bytes)) u;
-      given = λ pushed requests g. subst (λ b. IsGiven old b requests) (sym (ap (λ l. pushed ++ l) none ∙ append-nil pushed)) g;
+      unread = λ bytes u. rw (none, append-nil) u;
+      given = λ pushed requests g. rw (none, append-nil) g;
     })
 
 -- with data that can be let go there is room, and without them there is as much as the bytes unread leave

@@ -1,37 +1,22 @@
 -- A reader of requests returns exactly the request that the bytes begin with. So a stream is read in one way.
-use Rattle.std.proofs.Common.{◌≡◌, ℕ, ◌<◌, List, ◌++◌, Some, None, Ok, Err, ◌≢◌, [], ◌∷◌, length, Option, Result, refl, sym, ap, subst, ◌∙◌, arith, ⊎_elim, zero, suc, ◌⊎◌, inl, inr}
-use Rattle.std.proofs.lemmas.List.{length-append}
-use Rattle.rmt_wire.proofs.Words.{PlainRequest, SpellsRequest, HasFault, ParsesAs, Spelled, Parts, EndsInNumber, EndsInFullLine, IsCause, IsRequestPrefix, Parsed, READER_LIMIT, taken_of, WireFault, line_feed, UnknownCommand, BadNumber, LineTooLong, NotAReply, TooMuchData}
-use Rattle.rmt_wire.specs.RequestFront.{head_of, front_of}
-use Rattle.rmt_wire.proofs.Grammars.{Gives, Hopeless, answer_to, rest_behind, gives_of, faulty_always, room_of, first_same, one_gift}
+use Rattle.rmt_wire.proofs.Words.{Err, List, None, Ok, Option, Result, Some, [], ap, arith, inl, inr, length, length-append, refl, subst, suc, sym, zero, ℕ, ⊎_elim, ◌++◌, ◌<◌, ◌∙◌, ◌∷◌, ◌≡◌, ◌≤◌, ◌⊎◌, line_feed, IsLine, Parsed, PlainRequest, SpellsRequest, HasFault, ParsesAs, Spelled, Parts, EndsInNumber, EndsInFullLine, IsCause, IsRequestPrefix, front_of, head_of, taken_of, WireFault, READER_LIMIT}
+use Rattle.rmt_wire.proofs.Grammars.{Hopeless, Gives, answer_to, rest_behind, shorter, first_same, gives_of, faulty_always, room_of, one_gift}
+use Rattle.rmt_wire.proofs.Texts.{ended_len, open_len}
 use Rattle.rmt_wire.proofs.Requests.{request_grammar, request_seen, request_view}
-use Rattle.rmt_wire.proofs.Align.{head_same, no_cons, tail_same, line_same, no_feed_at}
 
+-- a fault of requests is one of their grammar
 pub fault_of : (bytes : List ℕ) (fault : WireFault) → HasFault bytes fault → Hopeless request_grammar bytes fault
-fault_of bytes fault f = record {
-  seen = f.seen;
-  byte = f.byte;
-  later = f.later;
-  split = f.split;
-  open_before = f.open_before;
-  hopeless = f.hopeless;
-  cause =
-      f.cause;
-}
+fault_of bytes fault f = search
 
 -- what is given of the grammar is given of requests
 parses : (bytes : List ℕ) (answer : Parsed PlainRequest) (rest : List ℕ) → Gives request_grammar bytes answer rest → ParsesAs bytes answer rest
-parses bytes (Ok None) rest g = g
-parses bytes (Ok (Some request)) rest g = g
-parses bytes (Err fault) rest g =
-    let f = g.0 in
-    (record { seen = f.seen; byte = f.byte; later = f.later; split = f.split; open_before = f.open_before; hopeless = f.hopeless; cause = f.cause }, g.1, g.2)
+parses bytes (Err fault) rest g = search
+parses bytes other rest g = g
 
 -- and the other way round
 pub parsed : (bytes : List ℕ) (answer : Parsed PlainRequest) (rest : List ℕ) → ParsesAs bytes answer rest → Gives request_grammar bytes answer rest
-parsed bytes (Ok None) rest g = g
-parsed bytes (Ok (Some request)) rest g = g
 parsed bytes (Err fault) rest g = (fault_of bytes fault g.0, g.1, g.2)
+parsed bytes other rest g = g
 
 -- what the bytes begin with is what a reader is to give
 pub gives : (bytes : List ℕ) (seen : Parsed (PlainRequest × ℕ)) → front_of bytes ≡ seen → ParsesAs bytes (answer_to seen) (rest_behind seen bytes)
@@ -53,14 +38,7 @@ spelled_some (b ∷ text) request s = omega arith
 
 -- what is given is let go
 pub given_shrinks : (bytes rest : List ℕ) (request : PlainRequest) → ParsesAs bytes (Ok (Some request)) rest → length rest < length bytes
-given_shrinks bytes rest request g =
-    let some = spelled_some g.0 request g.1 in
-    let all = ap (length {A = ℕ}) g.2 in
-    let parts = length-append g.0 rest in
-    omega arith
-
-cons_same : (a b : PlainRequest) (xs ys : List PlainRequest) → a ≡ b → xs ≡ ys → a ∷ xs ≡ b ∷ ys
-cons_same a b xs ys e f = cc
+given_shrinks bytes rest request g = omega (arith, spelled_some g.0 request g.1, ap (length {A = ℕ}) g.2, length-append g.0 rest)
 
 pub one_parts : (bytes rest other : List ℕ) (requests others : List PlainRequest) → Parts bytes requests rest → Parts bytes others other
     → (requests ≡ others) × (rest ≡ other)
@@ -70,64 +48,24 @@ one_parts bytes rest other (r ∷ items) [] p q = absurd (q.1 p.0.0 p.0.1 r (sym
 one_parts bytes rest other (r ∷ items) (r' ∷ others) p q =
     let first = first_same request_grammar request_seen bytes p.0.0 p.0.1 q.0.0 q.0.1 r r' p.0.3 p.0.2 q.0.3 q.0.2 in
     let later = one_parts p.0.1 rest other items others (p.0.4, p.1) (subst (λ b. Spelled b others other) (sym first.1) q.0.4, q.1) in
-    (cons_same r r' items others first.0 later.0, later.1)
+    ((cc (first.0, later.0)), later.1)
 
-other_letter : (a b : ℕ) (xs ys seen : List ℕ) → seen ≡ a ∷ xs → seen ≡ b ∷ ys → a ≢ b → ⊥
-other_letter a b xs ys seen e f apart = apart (head_same a b xs ys (sym e ∙ f))
-
-pub not_empty : (a : ℕ) (xs seen : List ℕ) → seen ≡ [] → seen ≡ a ∷ xs → ⊥
-not_empty a xs seen e f = no_cons a xs (sym f ∙ e)
-
-number_some : (seen : List ℕ) → seen ≡ [] → EndsInNumber seen → ⊥
-number_some seen e n =
-    ⊎_elim (not_empty 87 n.0 seen e) (⊎_elim (not_empty 82 n.0 seen e) (⊎_elim (not_empty 73 n.0 seen e)
-    (⊎_elim (λ w. not_empty 73 (w.0 ++ line_feed ∷ n.0) seen e w.3) (λ w. not_empty 79 (w.0 ++ line_feed ∷ n.0) seen e w.2)))) n.3
-
-line_some : (seen : List ℕ) → seen ≡ [] → EndsInFullLine seen → ⊥
-line_some seen e l =
-    ⊎_elim (not_empty 79 l.0 seen e) (⊎_elim (not_empty 67 l.0 seen e) (λ w. not_empty 79 (w.0 ++ line_feed ∷ l.0) seen e w.2)) l.3
-
-apart_at : (letter : ℕ) (xs seen : List ℕ) → letter ≢ 79 → letter ≢ 67 → seen ≡ letter ∷ xs → EndsInFullLine seen → ⊥
-apart_at letter xs seen o c e l =
-    ⊎_elim (λ f. other_letter letter 79 xs l.0 seen e f o)
-    (⊎_elim (λ f. other_letter letter 67 xs l.0 seen e f c) (λ w. other_letter letter 79 xs (w.0 ++ line_feed ∷ l.0) seen e w.2 o)) l.3
+-- no number after a device line ends in a full line
+device_apart : (device digits : List ℕ) → IsLine device → length digits ≤ 10 → EndsInFullLine (79 ∷ (device ++ line_feed ∷ digits)) → ⊥
+device_apart device digits d few l =
+    let mine = ended_len device digits d.1 in
+    let other = open_len l.0 l.2 in
+    let end = λ (v : List ℕ) (i : IsLine v). ended_len v l.0 i.1 in
+    grind (arith, mine, other, end, length-append {A = ℕ})
 
 -- no beginning ends in a number and in a full line
 apart : (seen : List ℕ) → EndsInNumber seen → EndsInFullLine seen → ⊥
 apart seen n l =
-    ⊎_elim (λ e. apart_at 87 n.0 seen (omega arith) (omega arith) e l)
-    (⊎_elim (λ e. apart_at 82 n.0 seen (omega arith) (omega arith) e l)
-    (⊎_elim (λ e. apart_at 73 n.0 seen (omega arith) (omega arith) e l)
-    (⊎_elim (λ w. apart_at 73 (w.0 ++ line_feed ∷ n.0) seen (omega arith) (omega arith) w.3 l)
-    (λ w.
-    ⊎_elim
-    (λ f.
-    let same = tail_same 79 79 (w.0 ++ line_feed ∷ n.0) l.0 (sym w.2 ∙ f) in
-    no_feed_at w.0 n.0 line_feed (rw (sym same) at l.2) refl)
-    (⊎_elim
-    (λ f. other_letter 79 67 (w.0 ++ line_feed ∷ n.0) l.0 seen w.2 f (omega arith))
-    (λ v.
-    let same = tail_same 79 79 (w.0 ++ line_feed ∷ n.0) (v.0 ++ line_feed ∷ l.0) (sym w.2 ∙ v.2) in
-    let fronts = ap (length {A = ℕ}) (line_same w.0 v.0 n.0 l.0 w.1.1 v.1.1 same) in
-    let few = n.2 in
-    let full = l.1 in
-    absurd (omega (arith, ap (length {A = ℕ}) same, length-append w.0 (line_feed ∷ n.0), length-append v.0 (line_feed ∷ l.0)))))
-    l.3)))) n.3
+    ⊎_elim (λ e. grind arith) (⊎_elim (λ e. grind arith) (⊎_elim (λ e. grind arith) (⊎_elim (λ w. grind arith)
+    (λ w. device_apart w.0 n.0 w.1 n.2 (rw w.2 at l))))) n.3
 
 cause_same : (seen : List ℕ) (byte : ℕ) (f g : WireFault) → IsCause seen byte f → IsCause seen byte g → f ≡ g
-cause_same seen byte UnknownCommand UnknownCommand p q = refl
-cause_same seen byte UnknownCommand BadNumber p q = absurd (number_some seen p q)
-cause_same seen byte UnknownCommand LineTooLong p q = absurd (line_some seen p q.0)
-cause_same seen byte BadNumber UnknownCommand p q = absurd (number_some seen q p)
-cause_same seen byte BadNumber BadNumber p q = refl
-cause_same seen byte BadNumber LineTooLong p q = absurd (apart seen p q.0)
-cause_same seen byte LineTooLong UnknownCommand p q = absurd (line_some seen q p.0)
-cause_same seen byte LineTooLong BadNumber p q = absurd (apart seen q p.0)
-cause_same seen byte LineTooLong LineTooLong p q = refl
-cause_same seen byte NotAReply g p q = absurd p
-cause_same seen byte TooMuchData g p q = absurd p
-cause_same seen byte f NotAReply p q = absurd q
-cause_same seen byte f TooMuchData p q = absurd q
+cause_same seen byte f g p q = grind (arith, apart seen)
 
 pub one_answer : (bytes rest other : List ℕ) (answer another : Result (Option PlainRequest) WireFault) → ParsesAs bytes answer rest
     → ParsesAs bytes another other → (answer ≡ another) × (rest ≡ other)

@@ -1,7 +1,5 @@
 -- Facts about any grammar: how the front of bytes is read, and the results that a reader can return.
-use Rattle.std.proofs.Common.{◌≡◌, ℕ, List, [], ◌∷◌, ◌++◌, length, drop, Some, None, Ok, Err, refl, sym, ap, subst, ◌∙◌, append_assoc, append-nil, ⊎_elim}
-use Rattle.std.proofs.lemmas.List.{drop_at}
-use Rattle.rmt_wire.proofs.Words.{Parsed, after, WireFault}
+use Rattle.rmt_wire.proofs.Words.{Err, List, None, Ok, Some, [], ap, append-nil, append_assoc, drop, length, refl, subst, sym, ℕ, ⊎_elim, ◌++◌, ◌∙◌, ◌∷◌, ◌≡◌, drop_at, Parsed, after, WireFault}
 use Rattle.rmt_wire.proofs.Align.{align}
 
 -- what is read at the front of bytes: which bytes are a beginning of it, which bytes begin with it, and which
@@ -31,6 +29,12 @@ View r bytes (Err fault) = FaultSeen r bytes fault
 -- the view of the front
 abbrev pub Seen : {A : Type 0} → Reading A → List ℕ → Type 0
 Seen r bytes = View r bytes (r.front bytes)
+
+-- a first byte is a fault, whatever follows it
+pub fault_first : {A : Type 0} (r : Reading A) (byte : ℕ) (later : List ℕ) (fault : WireFault) → r.IsOpen [] → r.IsCause [] byte fault
+    → ((more : List ℕ) → r.front (byte ∷ more) ≡ Err fault) → Seen r (byte ∷ later)
+fault_first r byte later fault none cause always = subst (View r (byte ∷ later)) (sym (always later))
+    (record { seen = []; byte = byte; later = later; split = refl; open_before = none; cause = cause; always = always })
 
 -- If bytes in front of others lead to what is read of the others, its view is a view of all of them.
 module _ {A B : Type 0} (r : Reading A) (s : Reading B) (pre : List ℕ → List ℕ) (next : List ℕ → A → Parsed B)
@@ -112,9 +116,8 @@ answer_to (Ok (Some p)) = Ok (Some p.0)
 answer_to (Err fault) = Err fault
 
 abbrev pub rest_behind : {A : Type 0} → Parsed (A × ℕ) → List ℕ → List ℕ
-rest_behind (Ok None) bytes = bytes
 rest_behind (Ok (Some p)) bytes = drop p.1 bytes
-rest_behind (Err fault) bytes = bytes
+rest_behind other bytes = bytes
 
 -- a beginning of a beginning is one
 pub shorter : {A : Type 0} (g : Grammar A) (bytes more : List ℕ) → IsPrefix g (bytes ++ more) → IsPrefix g bytes
@@ -200,16 +203,11 @@ faulty_always g bytes fault more v e =
 pub room_of : {A : Type 0} (g : Grammar A) (bytes : List ℕ) → Seen (reading g) bytes → g.front bytes ≡ Ok None → g.HasRoom bytes
 room_of g bytes v e = let w : IsPrefix g bytes × g.HasRoom bytes = subst (View (reading g) bytes) e v in w.1
 
--- a beginning has no fault
-pub open_or_fault : {A : Type 0} (g : Grammar A) (bytes : List ℕ) (fault : WireFault) → IsPrefix g bytes → Hopeless g bytes fault → ⊥
-open_or_fault g bytes fault o f = f.hopeless (shorter g (f.seen ++ f.byte ∷ []) f.later
-    (subst (IsPrefix g) (f.split ∙ sym (append_assoc f.seen (f.byte ∷ []) f.later)) o))
-
--- what is still open goes on from no fault
-not_before : {A : Type 0} (g : Grammar A) (bytes : List ℕ) (f h : WireFault) (a : Hopeless g bytes f) (b : Hopeless g bytes h) (t : List ℕ)
-    → b.seen ≡ a.seen ++ a.byte ∷ t → ⊥
-not_before g bytes f h a b t e = a.hopeless (shorter g (a.seen ++ a.byte ∷ []) t
-    (subst (IsPrefix g) (e ∙ sym (append_assoc a.seen (a.byte ∷ []) t)) b.open_before))
+-- no beginning goes on from a fault
+pub none_past_fault : {A : Type 0} (g : Grammar A) (bytes : List ℕ) (fault : WireFault) (f : Hopeless g bytes fault) (t longer : List ℕ)
+    → longer ≡ f.seen ++ f.byte ∷ t → IsPrefix g longer → ⊥
+none_past_fault g bytes fault f t longer e o =
+    f.hopeless (shorter g (f.seen ++ f.byte ∷ []) t (subst (IsPrefix g) (e ∙ sym (append_assoc f.seen (f.byte ∷ []) t)) o))
 
 -- one byte after one beginning is one fault
 abbrev pub OneCause : {A : Type 0} → Grammar A → Type 0
@@ -218,10 +216,10 @@ OneCause g = (seen : List ℕ) (byte : ℕ) (f h : WireFault) → g.IsCause seen
 pub fault_same : {A : Type 0} (g : Grammar A) → OneCause g → (bytes : List ℕ) (f h : WireFault) → Hopeless g bytes f → Hopeless g bytes h → f ≡ h
 fault_same g one bytes f h a b =
     ⊎_elim
-    (λ w. absurd (not_before g bytes f h a b w.0 w.1))
+    (λ w. absurd (none_past_fault g bytes f a w.0 b.seen w.1 b.open_before))
     (⊎_elim
-    (λ w. absurd (not_before g bytes h f b a w.0 w.1))
-    (λ w. one b.seen b.byte f h (subst (λ n. g.IsCause b.seen n f) w.1 (subst (λ t. g.IsCause t a.byte f) w.0 a.cause)) b.cause))
+    (λ w. absurd (none_past_fault g bytes h b w.0 a.seen w.1 a.open_before))
+    (λ w. one b.seen b.byte f h (rw (w.0, w.1) at a.cause) b.cause))
     (align a.seen b.seen a.byte b.byte a.later b.later (sym a.split ∙ b.split))
 
 -- at each place a reader can give one thing only
@@ -231,11 +229,9 @@ pub one_gift : {A : Type 0} (g : Grammar A) → SpelledSeen g → OneCause g →
 one_gift g seen one bytes rest other (Ok (Some a)) (Ok (Some b)) p q =
     let w = first_same g seen bytes p.0 rest q.0 other a b p.2 p.1 q.2 q.1 in
     (ap (λ x. Ok (Some x)) w.0, w.1)
-one_gift g seen one bytes rest other (Ok (Some a)) (Ok None) p q = absurd (q.1 p.0 rest a p.2 p.1)
-one_gift g seen one bytes rest other (Ok (Some a)) (Err f) p q = absurd (q.1 p.0 rest a p.2 p.1)
-one_gift g seen one bytes rest other (Ok None) (Ok (Some b)) p q = absurd (p.1 q.0 other b q.2 q.1)
+one_gift g seen one bytes rest other answer (Ok (Some b)) p q = absurd (p.1 q.0 other b q.2 q.1)
+one_gift g seen one bytes rest other (Ok (Some a)) another p q = absurd (q.1 p.0 rest a p.2 p.1)
 one_gift g seen one bytes rest other (Ok None) (Ok None) p q = (refl, p.2 ∙ sym q.2)
-one_gift g seen one bytes rest other (Ok None) (Err f) p q = absurd (open_or_fault g bytes f p.0 q.0)
-one_gift g seen one bytes rest other (Err f) (Ok (Some b)) p q = absurd (p.1 q.0 other b q.2 q.1)
-one_gift g seen one bytes rest other (Err f) (Ok None) p q = absurd (open_or_fault g bytes f q.0 p.0)
+one_gift g seen one bytes rest other (Ok None) (Err f) p q = absurd (none_past_fault g bytes f q.0 q.0.later bytes q.0.split p.0)
+one_gift g seen one bytes rest other (Err f) (Ok None) p q = absurd (none_past_fault g bytes f p.0 p.0.later bytes p.0.split q.0)
 one_gift g seen one bytes rest other (Err f) (Err h) p q = (ap Err (fault_same g one bytes f h p.0 q.0), p.2 ∙ sym q.2)

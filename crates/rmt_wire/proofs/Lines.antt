@@ -1,9 +1,7 @@
 -- What is seen of a line.
-use Rattle.std.proofs.Common.{◌≡◌, ◌≢◌, ℕ, suc, ◌+◌, ◌≤◌, false, eqb, List, [], ◌∷◌, ◌++◌, length, Some, Ok, refl, ap, ◌∙◌, arith, add-zero, zero-add}
-use Rattle.std.proofs.lemmas.Bool.Decides.{nat_tests}
-use Rattle.rmt_wire.proofs.Words.{HasNoLineFeed, IsLine, line_feed, line_from, line_front, LineTooLong}
-use Rattle.rmt_wire.proofs.Numbers.{by_test, after_some}
-use Rattle.rmt_wire.proofs.Grammars.{Reading, View, Seen, past_with}
+use Rattle.rmt_wire.proofs.Words.{List, Ok, Some, [], add-zero, ap, arith, eqb, false, length, refl, ℕ, ◌++◌, ◌+◌, ◌∷◌, ◌≡◌, ◌≢◌, ◌≤◌, nat_tests, line_feed, HasNoLineFeed, IsLine, line_from, line_front, LineTooLong}
+use Rattle.rmt_wire.proofs.Grammars.{Reading, Seen, fault_first, past_with}
+use Rattle.rmt_wire.proofs.Numbers.{on, after_some}
 
 -- so many bytes of a line after others are no more than 255
 pub record AreOfLine (c : ℕ) (line : List ℕ) : Type 0 where
@@ -14,12 +12,8 @@ pub record AreOfLine (c : ℕ) (line : List ℕ) : Type 0 where
 pub line_skips : (c : ℕ) (first more : List ℕ) → AreOfLine c first → line_from c (first ++ more) ≡ line_from (c + length first) more
 line_skips c [] more l = rw add-zero refl
 line_skips c (b ∷ first) more l =
-    let few = l.few in
-    let other = l.each.0 in
-    let no_end : eqb b line_feed ≡ false = grind (arith, nat_tests) in
-    let room : eqb c 255 ≡ false = grind (arith, nat_tests) in
-    let same : c + suc (length first) ≡ c + 1 + length first = omega arith in
-    rw (no_end, room, same) (line_skips (c + 1) first more (record { each = l.each.1; few = omega arith }))
+    let later = line_skips (c + 1) first more (record { each = l.each.1; few = omega arith }) in
+    grind (arith, nat_tests, later)
 
 -- a line feed ends the line
 pub record LineDone (c : ℕ) (bytes : List ℕ) (n : ℕ) : Type 0 where
@@ -38,7 +32,7 @@ lines c = record {
 }
 
 one_more : (c b : ℕ) (line : List ℕ) → eqb b line_feed ≡ false → AreOfLine (c + 1) line → AreOfLine c (b ∷ line)
-one_more c b line other l = let few = l.few in record { each = (grind (arith, nat_tests), l.each); few = omega arith }
+one_more c b line other l = grind (arith, nat_tests)
 
 -- a byte in front of what is seen after it
 byte_view : (c b : ℕ) (bytes : List ℕ) → eqb b line_feed ≡ false → eqb c 255 ≡ false → Seen (lines (c + 1)) bytes → Seen (lines c) (b ∷ bytes)
@@ -54,22 +48,12 @@ pub line_view : (c : ℕ) (bytes : List ℕ) → c ≤ 255 → Seen (lines c) by
 line_view c [] few = record { each = tt; few = omega arith }
 line_view c (b ∷ bytes) few =
     let none : AreOfLine c [] = record { each = tt; few = omega arith } in
-    by_test (View (lines c) (b ∷ bytes)) (eqb b line_feed) _ _
-    (λ ends. record { line = []; rest = bytes; are = none; split = (let e : b ≡ line_feed = grind (arith, nat_tests) in ap (λ x. x ∷ bytes) e) })
-    (λ other. by_test (View (lines c) (b ∷ bytes)) (eqb c 255) _ _
-    (λ full. record {
-      seen = [];
-      byte = b;
-      later = bytes;
-      split = refl;
-      open_before = none;
-      cause = (refl, grind (arith, nat_tests), grind (arith, nat_tests));
-      always = λ more. rw (other, full) refl;
-    })
-    (λ room. rw (other, room) at (byte_view c b bytes other room (line_view (c + 1) bytes (grind (arith, nat_tests))))))
+    on (eqb b line_feed)
+    (λ ends. let e : b ≡ line_feed = grind (arith, nat_tests) in rw ends (record { line = []; rest = bytes; are = none; split = ap (λ x. x ∷ bytes) e }))
+    (λ other. on (eqb c 255)
+    (λ full. fault_first (lines c) b bytes LineTooLong none (grind (arith, nat_tests)) (λ more. rw (other, full) refl))
+    (λ room. byte_view c b bytes other room (line_view (c + 1) bytes (grind (arith, nat_tests)))))
 
 -- a line and its line feed are seen as the line's length
 pub line_is_seen : (line more : List ℕ) → IsLine line → line_front (line ++ line_feed ∷ more) ≡ Ok (Some (length line))
-line_is_seen line more l =
-    let few = l.0 in
-    line_skips 0 line (line_feed ∷ more) (record { each = l.1; few = omega arith }) ∙ ap (λ n. Ok (Some n)) (zero-add (length line))
+line_is_seen line more l = grind (arith, line_skips 0 line (line_feed ∷ more) (record { each = l.1; few = omega arith }))

@@ -1,13 +1,9 @@
 -- One call of a reader's `next`.
-use Rattle.std.proofs.Common.{◌≡◌, ℕ, eqb, true, min, ◌+◌, ◌-◌, ◌<◌, ◌≤◌, List, [], ◌++◌, length, take, drop, Option, Some, None, Result, Ok, Err, refl, sym, ap, subst, ◌∙◌, arith}
-use Rattle.std.proofs.lemmas.Bool.Decides.{nat_tests}
-use Rattle.std.proofs.lemmas.List.{take_all, nil_from_length, length-append, length-drop, length-take-le, drop-append-le, drop-take, drop-drop}
-use Rattle.rmt_wire.proofs.Words.{RequestHeld, PlainRequest, WriteDropped, ParsesAs, Parsed, front_of, plain_request, lent_front, READER_LIMIT, held, IsDropped, Unread, discardable_at, taken_of, IsNext, StaysFaulty, plain_front_result, held_after, HasDiscarded, Request, WireFault}
-use Rattle.rmt_wire.specs.RequestReader.{dropped_line}
-use Rattle.rmt_wire.proofs.Given.{is_next}
+use Rattle.rmt_wire.proofs.Words.{Err, List, None, Ok, Option, Result, Some, [], ap, arith, drop, eqb, length, length-append, length-drop, min, refl, subst, sym, take, true, ℕ, ◌++◌, ◌+◌, ◌-◌, ◌<◌, ◌∙◌, ◌≡◌, ◌≤◌, nat_tests, drop-append-le, drop-drop, drop-take, length-take-le, nil_from_length, take_all, Parsed, PlainRequest, WriteDropped, front_of, taken_of, RequestHeld, held, IsDropped, Unread, discardable_at, IsNext, StaysFaulty, plain_front_result, held_after, dropped_line, HasDiscarded, plain_request, lent_front, WireFault, READER_LIMIT, Request}
 use Rattle.rmt_wire.proofs.Giving.{gives, room, always_faulty, given_shrinks}
-use Rattle.rmt_wire.proofs.Dropped.{unread_whole, plain_unread, whole_given, less_given, empty_unread, taken_kept, let_go_unread}
-use Rattle.rmt_wire.proofs.WriteLines.{dropped_found, line_split, line_stays}
+use Rattle.rmt_wire.proofs.WriteLines.{line_stays, dropped_found, line_split}
+use Rattle.rmt_wire.proofs.Dropped.{unread_whole, taken_kept, let_go_unread, empty_unread, whole_given, less_given, plain_unread}
+use Rattle.rmt_wire.proofs.Given.{is_next}
 
 -- with no dropped write at the front, what is seen of the bytes kept is given
 module _ (kept : List ℕ) (dropped : ℕ) (none : dropped_line kept ≡ None) where
@@ -22,20 +18,15 @@ module _ (kept : List ℕ) (dropped : ℕ) (none : dropped_line kept ≡ None) w
       let seen : Parsed (PlainRequest × ℕ) = Ok (Some (plain_request f.0, f.1)) in
       let rest : List ℕ = drop f.1 kept in
       let g = gives kept seen (sym e) in
-      is_next _ _ _ (λ bytes u. (
-        rest,
-        unread_whole rest,
-        subst (λ b. ParsesAs b (Ok (Some (plain_request f.0))) rest)
-            (sym (plain_unread kept dropped bytes none u)) g,
-      )) tt
+      is_next _ _ _ (λ bytes u. (rest, unread_whole rest, rw (plain_unread kept dropped bytes none u) g)) tt
       (given_shrinks kept rest (plain_request f.0) g) tt
   plain_next (Err fault) e = is_next _ _ _ (λ bytes u. (bytes, u, gives bytes (Err fault) (front_kept (Err fault) e bytes u))) tt tt refl
 
   pub plain_faulty : (found : Result (Option (Request × ℕ)) WireFault) → lent_front found ≡ front_of kept
       → StaysFaulty (held kept dropped) (plain_front_result found)
+  plain_faulty (Err fault) e = λ bytes more u. gives (bytes ++ more) (Err fault) (always_faulty bytes fault more (front_kept (Err fault) e bytes u))
   plain_faulty (Ok None) e = tt
   plain_faulty (Ok (Some f)) e = tt
-  plain_faulty (Err fault) e = λ bytes more u. gives (bytes ++ more) (Err fault) (always_faulty bytes fault more (front_kept (Err fault) e bytes u))
 
 -- at a dropped write
 pub whole_next : (kept : List ℕ) (dropped : ℕ) (line : ℕ × ℕ) → dropped_line kept ≡ Some line → line.1 ≤ dropped + (length kept - line.0) → 0 < line.0
@@ -64,22 +55,14 @@ pub taken_out : (items : List ℕ) (start len count : ℕ) → start + len ≤ l
 taken_out items start len count within =
     let size : start ≤ length (take (start + len) items) = omega (arith, length-take-le (start + len) items within) in
     let sum : start + len + count ≡ start + (len + count) = omega arith in
-    drop-append-le start (take (start + len) items) (drop (start + len + count) items) size
-    ∙ ap (λ l. l ++ drop (start + len + count) items) (drop-take start len items)
-    ∙ ap (λ n. take len (drop start items) ++ drop n items) sum
-    ∙ ap (λ l. take len (drop start items) ++ l) (sym (drop-drop (len + count) start items))
+    rw (drop-append-le start (take (start + len) items) _ size, drop-take start len items, sum, drop-drop (len + count) start items) refl
 
 -- nothing is behind the start exactly where it is the end
 pub at_end : (items : List ℕ) (start len : ℕ) → len ≡ length items → start ≤ length items
     → (eqb len start ≡ true → drop start items ≡ []) × (drop start items ≡ [] → eqb len start ≡ true)
 at_end items start len e within = (
-  λ t.
-      let same : len ≡ start = grind (arith, nat_tests) in
-      nil_from_length (drop start items) (omega (arith, length-drop start items)),
-  λ z.
-      let none : length (drop start items) ≡ 0 = ap (length {A = ℕ}) z in
-      let same : len ≡ start = omega (arith, length-drop start items) in
-      grind (arith, nat_tests),
+  λ t. nil_from_length (drop start items) (grind (arith, nat_tests, length-drop {A = ℕ})),
+  λ z. (let none = ap (length {A = ℕ}) z in grind (arith, nat_tests, length-drop {A = ℕ})),
 )
 
 -- the bytes kept are none exactly there
@@ -111,13 +94,8 @@ all_discarded : (old : RequestHeld) (kept : List ℕ) (dropped : ℕ) → IsDrop
     → discardable_at (dropped_line kept) (length kept) dropped ≡ 0
     → ((bytes : List ℕ) → Unread old bytes → Unread (held kept dropped) bytes) → HasDiscarded old (held kept dropped)
 all_discarded old kept dropped at_line none unread =
-    record {
-      at_line = at_line;
-      none_idle = none;
-      unread = unread;
-      taken =
-          λ bytes u. (let t = taken_kept kept dropped bytes (unread bytes u) in omega (arith, none));
-    }
+    let taken = λ (bytes : List ℕ) (u : Unread old bytes). taken_kept kept dropped bytes (unread bytes u) in
+    record { at_line = at_line; none_idle = none; unread = unread; taken = λ bytes u. omega (arith, taken bytes u, none) }
 
 -- what is kept once the data of a dropped write that can go are taken out after its line
 module _ (old items : List ℕ) (start dropped discardable : ℕ) (line : ℕ × ℕ) (within : start ≤ length old) (found : dropped_line (drop start old) ≡ Some line)
@@ -131,14 +109,7 @@ module _ (old items : List ℕ) (start dropped discardable : ℕ) (line : ℕ ×
   left_behind = ap (drop start) is ∙ taken_out old start line.0 discardable (let size = length-drop start old in omega (arith, some.1))
 
   new_size : length (drop start items) + discardable ≡ length (drop start old)
-  new_size = omega (
-    arith,
-    ap (length {A = ℕ}) left_behind,
-    length-append (take line.0 (drop start old)) (drop (line.0 + discardable) (drop start old)),
-    length-take-le line.0 (drop start old) some.1,
-    length-drop (line.0 + discardable) (drop start old),
-    some.1,
-  )
+  new_size = omega (arith, ap (length {A = ℕ}) left_behind, length-append {A = ℕ}, length-take-le line.0 (drop start old) some.1, length-drop {A = ℕ}, some.1)
 
   pub has_discarded : HasDiscarded (held (drop start old) dropped) (held (drop start items) (dropped + discardable))
   has_discarded =
@@ -156,5 +127,5 @@ none_let_go kept dropped e at_line =
     all_discarded (held kept dropped) kept dropped at_line (ap (λ o. discardable_at o (length kept) dropped) e) (λ bytes u. u)
 
 -- the bytes of a slice from a place on
-pub seen_from : (all items : List ℕ) (start : ℕ) → all ≡ items → take (length all - start) (drop start all) ≡ drop start items
-seen_from all items start e = take_all _ _ (omega (arith, length-drop start all)) ∙ ap (drop start) e
+pub seen_from : (all items : List ℕ) → all ≡ items → (start : ℕ) → take (length all - start) (drop start all) ≡ drop start items
+seen_from all items e start = take_all _ _ (omega (arith, length-drop start all)) ∙ ap (drop start) e

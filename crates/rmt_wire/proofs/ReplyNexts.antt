@@ -1,29 +1,20 @@
 -- One call of a reader of replies.
-use Rattle.std.proofs.Common.{◌≡◌, ◌≢◌, ℕ, suc, ◌+◌, ◌-◌, ◌<◌, ◌≤◌, ◌⊎◌, Bool, true, false, eqb, min, List, [], ◌∷◌, ◌++◌, length, take, drop, get_or, Option, Some, None, Result, Ok, Err, refl, sym, ap, subst, ◌∙◌, arith, append_assoc, ⊎_elim, inl, inr}
-use Rattle.std.proofs.lemmas.Bool.Decides.{nat_tests}
-use Rattle.std.proofs.Math.Seq.{take-add}
-use Rattle.std.proofs.lemmas.List.{length-append, length-drop, drop_at, drop-drop, take_rest}
-use Rattle.std.specs.Option.{is_some}
-use Rattle.rmt_wire.specs.ReplyReader.{ReplyContinues, ReplyLeavesRoom}
-use Rattle.rmt_wire.proofs.Words.{HasNoLineFeed, line_feed, PlainReply, Wanted, Error, ReplyParsesAs, wanted_after, Parsed, number_front, reply_front, text_len, kept_text, kept_behind, READER_LIMIT, reply_held, IsWithin, kept_while, ReplyUnread, reply_taken_of, ReplyIsNext, ReplyStaysFaulty, plain_reply_front_result, reply_held_after, IsErrorText, error_bytes, plain_reply, lent_reply, plain_wanted, plain_wanted_if_some, Reply, WireFault, TooMuchData}
-use Rattle.rmt_wire.specs.ReplyFront.{kept_of}
-use Rattle.rmt_wire.specs.declared.reply.wanted.Wanted as declared
-use Rattle.rmt_wire.specs.declared.number.Place.TheVariants as places
+use Rattle.rmt_wire.proofs.Words.{Bool, Err, List, None, Ok, Option, Result, Some, [], ap, append_assoc, arith, drop, eqb, false, get_or, inl, inr, is_some, length, length-append, length-drop, min, refl, subst, suc, sym, take, true, ℕ, ⊎_elim, ◌++◌, ◌+◌, ◌-◌, ◌<◌, ◌∙◌, ◌∷◌, ◌≡◌, ◌≢◌, ◌≤◌, ◌⊎◌, take-add, nat_tests, drop-drop, drop_at, take_rest, line_feed, HasNoLineFeed, Parsed, number_front, PlainReply, Wanted, Error, ReplyParsesAs, wanted_after, text_len, kept_text, kept_behind, reply_front, kept_of, reply_held, IsWithin, kept_while, ReplyUnread, reply_taken_of, ReplyIsNext, ReplyStaysFaulty, plain_reply_front_result, reply_held_after, IsErrorText, error_bytes, ReplyContinues, ReplyLeavesRoom, plain_reply, lent_reply, plain_wanted, plain_wanted_if_some, WireFault, TooMuchData, READER_LIMIT, Place, Reply}
 use Rattle.rmt_wire.proofs.Align.{no_cons}
 use Rattle.rmt_wire.proofs.Grammars.{View, faulty_always, room_of}
-use Rattle.rmt_wire.proofs.Numbers.{on, pick, behind, numbers, number_view, digits_spell, end_feed, length_line}
-use Rattle.rmt_wire.proofs.Nexts.{taken_out, at_end}
+use Rattle.rmt_wire.proofs.Numbers.{pick, numbers, number_view, digits_spell, behind, behind_lines, length_line, end_feed}
 use Rattle.rmt_wire.proofs.Texts.{TextView, text_view, take_no_feed, take_twice, kept_open, kept_ended, kept_again}
-use Rattle.rmt_wire.proofs.Replies.{reply_grammar, reply_view, kept_error, error_ended, error_open}
+use Rattle.rmt_wire.proofs.Nexts.{taken_out, at_end}
+use Rattle.rmt_wire.proofs.Replies.{reply_grammar, error_ended, error_open, kept_error, reply_view}
 use Rattle.rmt_wire.proofs.ReplyGiving.{gives}
+use Rattle.rmt_wire.specs.declared.reply.wanted.Wanted as declared
 
 -- the bytes are an error's, as far as its text at least
 abbrev HasText : List ℕ → Type 0
 HasText bytes = (number text : List ℕ) × IsErrorText bytes number text
 
-text_after : (bytes : List ℕ) (seen : Parsed (ℕ × ℕ)) → View (numbers places.Line 0 0) bytes seen
+text_after : (bytes : List ℕ) (seen : Parsed (ℕ × ℕ)) → View (numbers Place.Line 0 0) bytes seen
     → HasText (69 ∷ bytes) ⊎ (69 ∷ kept_behind seen bytes ≡ 69 ∷ bytes)
-text_after bytes (Ok None) v = inr refl
 text_after bytes (Ok (Some p)) v = inl (
   v.digits,
   v.rest,
@@ -33,14 +24,14 @@ text_after bytes (Ok (Some p)) v = inl (
     split = ap (λ l. 69 ∷ l) (v.split ∙ ap (λ x. v.digits ++ x ∷ v.rest) (end_feed v.stop v.ends));
   },
 )
-text_after bytes (Err fault) v = inr refl
+text_after bytes other v = inr refl
 
 -- or all of them are kept
 text_or_all : (bytes : List ℕ) → HasText bytes ⊎ (kept_of bytes ≡ bytes)
 unfolding kept_of
 text_or_all [] = inr refl
 text_or_all (letter ∷ bytes) = pick letter 69 (λ l. HasText (l ∷ bytes) ⊎ (kept_of (l ∷ bytes) ≡ l ∷ bytes))
-    (text_after bytes (number_front places.Line bytes) (number_view places.Line bytes)) (λ other. inr (rw other refl))
+    (text_after bytes (number_front Place.Line bytes) (number_view Place.Line bytes)) (λ other. inr (rw other refl))
 
 -- what is kept of an error
 kept_is : (bytes number text : List ℕ) → IsErrorText bytes number text → kept_of bytes ≡ error_bytes number (kept_text text)
@@ -61,11 +52,9 @@ pub pushed : (bytes piece : List ℕ) → kept_of (kept_of bytes ++ piece) ≡ k
 pushed bytes piece =
     ⊎_elim
     (λ t.
-    let number = t.0 in
-    let again : (text : List ℕ) → kept_of (error_bytes number text ++ piece) ≡ error_bytes number (kept_text (text ++ piece)) =
-    λ text. ap kept_of (sym (behind 69 number text piece)) ∙ kept_error number (text ++ piece) t.2.value t.2.spelled in
-    ap (λ l. kept_of (l ++ piece)) (kept_is bytes number t.1 t.2) ∙ again (kept_text t.1) ∙ ap (error_bytes number) (kept_again t.1 piece)
-    ∙ sym (ap (λ l. kept_of (l ++ piece)) t.2.split ∙ again t.1))
+    let again : (text : List ℕ) → kept_of (error_bytes t.0 text ++ piece) ≡ error_bytes t.0 (kept_text (text ++ piece)) =
+    λ text. ap kept_of (sym (behind 69 t.0 text piece)) ∙ kept_error t.0 (text ++ piece) t.2.value t.2.spelled in
+    rw (kept_is bytes t.0 t.1 t.2, t.2.split) (again (kept_text t.1) ∙ ap (error_bytes t.0) (kept_again t.1 piece) ∙ sym (again t.1)))
     (λ k. ap (λ l. kept_of (l ++ piece)) k)
     (text_or_all bytes)
 
@@ -77,18 +66,13 @@ SameSeen wanted bytes (Err fault) = reply_front wanted bytes ≡ Err fault
 
 same_all : (wanted : Wanted) (bytes : List ℕ) (seen : Parsed (PlainReply × ℕ)) → kept_of bytes ≡ bytes → reply_front wanted bytes ≡ seen
     → SameSeen wanted bytes seen
-same_all wanted bytes (Ok None) k e = e
 same_all wanted bytes (Ok (Some p)) k e = (p.1, e, ap (drop p.1) k)
-same_all wanted bytes (Err fault) k e = e
+same_all wanted bytes other k e = e
 
 -- after an error that has ended
 behind_error : (number line rest : List ℕ) → drop (length number + 2 + length line + 1) (error_bytes number (line ++ line_feed ∷ rest)) ≡ rest
-behind_error number line rest =
-    let size : length (error_bytes number (line ++ line_feed ∷ [])) ≡ length number + 2 + length line + 1 =
-    omega (arith, length_line 69 number (line ++ line_feed ∷ []), length-append line (line_feed ∷ [])) in
-    ap (drop (length number + 2 + length line + 1)) (ap (error_bytes number) (sym (append_assoc line (line_feed ∷ []) rest))
-    ∙ behind 69 number (line ++ line_feed ∷ []) rest)
-    ∙ drop_at (error_bytes number (line ++ line_feed ∷ [])) rest (length number + 2 + length line + 1) size
+behind_error number line rest = ap (drop (length number + 2 + length line + 1)) (behind_lines 69 number line rest)
+    ∙ drop_at (error_bytes number (line ++ line_feed ∷ [])) rest _ (omega (arith, length_line 69 number (line ++ line_feed ∷ []), length-append {A = ℕ}))
 
 same_text : (wanted : Wanted) (bytes number text : List ℕ) → IsErrorText bytes number text → TextView text
     → SameSeen wanted bytes (reply_front wanted (kept_of bytes))
@@ -128,9 +112,9 @@ module _ (old : Wanted) (kept : List ℕ) where
 
   given : (found : Result (Option (Reply × ℕ)) WireFault) (bytes : List ℕ) → kept ≡ kept_of bytes → SameSeen old bytes (lent_reply found)
       → Given found bytes (Some old)
-  given (Ok None) bytes k same = (bytes, record { waits = refl; keeps = k }, gives old bytes (Ok None) same)
   given (Ok (Some f)) bytes k same =
       (drop same.0 bytes, record { waits = refl; keeps = ap (drop f.1) k ∙ same.2 }, gives old bytes (Ok (Some (plain_reply f.0, same.0))) same.1)
+  given (Ok None) bytes k same = (bytes, record { waits = refl; keeps = k }, gives old bytes (Ok None) same)
   given (Err fault) bytes k same = (bytes, record { waits = refl; keeps = k }, gives old bytes (Err fault) same)
 
   -- what it keeps
@@ -161,12 +145,12 @@ module _ (old : Wanted) (kept : List ℕ) where
   -- a fault is seen whatever follows
   pub some_faulty : (found : Result (Option (Reply × ℕ)) WireFault) → lent_reply found ≡ reply_front old kept
       → ReplyStaysFaulty (reply_held (Some old) kept) (plain_reply_front_result found)
-  some_faulty (Ok None) e = tt
-  some_faulty (Ok (Some f)) e = tt
   some_faulty (Err fault) e = λ wanted bytes more u.
       subst (λ w. ReplyParsesAs w (bytes ++ more) (Err fault) (bytes ++ more)) u.waits
       (gives old (bytes ++ more) (Err fault) (faulty_always (reply_grammar old) bytes fault more (reply_view old bytes)
       (same_kept (Err fault) wanted bytes e u)))
+  some_faulty (Ok None) e = tt
+  some_faulty (Ok (Some f)) e = tt
 
 -- where nothing is waited for
 some_more : (bytes more : List ℕ) → bytes ≢ [] → bytes ++ more ≢ []
@@ -182,23 +166,20 @@ none_faulty kept some = λ wanted bytes more u.
 pub some_kept : (kept : List ℕ) (test : Bool) → test ≡ eqb (length kept) 0 → test ≡ false → kept ≢ []
 some_kept kept test e f = λ z. let none : length kept ≡ 0 = ap (length {A = ℕ}) z in absurd (grind (arith, nat_tests))
 
-kept_some : (letter : ℕ) (bytes : List ℕ) → kept_of (letter ∷ bytes) ≡ [] → ⊥
+-- nothing is kept of no bytes alone
+none_of : (bytes : List ℕ) → kept_of bytes ≡ [] → bytes ≡ []
 unfolding kept_of
-kept_some letter bytes k =
-    on (eqb letter 69) (λ e. no_cons letter (kept_behind (number_front places.Line bytes) bytes) (rw e at k)) (λ e. no_cons letter bytes (rw e at k))
+none_of [] k = refl
+none_of (letter ∷ bytes) k = grind arith
 
 none_kept : (wanted : Option Wanted) (bytes : List ℕ) → kept_while wanted bytes ≡ [] → bytes ≡ []
 none_kept None bytes k = k
-none_kept (Some wanted) [] k = refl
-none_kept (Some wanted) (b ∷ bytes) k = absurd (kept_some b bytes k)
-
-kept_of_none : kept_of [] ≡ []
-unfolding kept_of
-kept_of_none = refl
+none_kept (Some wanted) bytes k = none_of bytes k
 
 pub kept_nothing : (wanted : Option Wanted) → kept_while wanted [] ≡ []
+unfolding kept_of
 kept_nothing None = refl
-kept_nothing (Some wanted) = kept_of_none
+kept_nothing (Some wanted) = refl
 
 -- the bytes kept are none exactly where their start is the end
 pub empty_at : (items : List ℕ) (start : ℕ) (was : Option Wanted) (wanted : Option Wanted) (bytes : List ℕ) (len : ℕ) → len ≡ length items
@@ -215,7 +196,7 @@ all_given items start was len e within t = record { waits = refl; keeps = (at_en
 
 -- a reader that holds nothing waits for what it is told to
 pub expected : (wanted : Wanted) (kept : List ℕ) → ReplyUnread (reply_held None kept) None [] → ReplyUnread (reply_held (Some wanted) kept) (Some wanted) []
-expected wanted kept u = record { waits = refl; keeps = u.keeps ∙ sym kept_of_none }
+expected wanted kept u = record { waits = refl; keeps = u.keeps ∙ sym (kept_nothing (Some wanted)) }
 
 some_wanted : (o : Option declared.Wanted) (wanted : Option Wanted) → is_some o ≡ true → plain_wanted_if_some o ≡ wanted → (w : Wanted) × (wanted ≡ Some w)
 some_wanted None wanted t e = absurd (cc)
@@ -244,25 +225,18 @@ push_kept o kept mid new all piece bytes wanted start at discardable some behind
     }
 
 -- a text that is too long is cut where it is, after the letter of an error
-pub cut_behind : (bytes : List ℕ) (p : ℕ × ℕ) (size kept : ℕ) → number_front places.Line bytes ≡ Ok (Some p)
+pub cut_behind : (bytes : List ℕ) (p : ℕ × ℕ) (size kept : ℕ) → number_front Place.Line bytes ≡ Ok (Some p)
     → size ≡ text_len (take (length bytes - (p.1 + 1)) (drop (p.1 + 1) bytes))
-    → kept ≡ min size 255 → kept_behind (number_front places.Line bytes) bytes ≡ take (p.1 + 1 + kept) bytes ++ drop (p.1 + 1 + kept + (size - kept)) bytes
+    → kept ≡ min size 255 → kept_behind (number_front Place.Line bytes) bytes ≡ take (p.1 + 1 + kept) bytes ++ drop (p.1 + 1 + kept + (size - kept)) bytes
 cut_behind bytes p size kept e s k =
-    let len : ℕ = p.1 + 1 in
-    let text : List ℕ = drop len bytes in
-    let all : text_len text ≡ size = sym (s ∙ ap text_len (take_rest bytes len)) in
+    let all : text_len (drop (p.1 + 1) bytes) ≡ size = sym (s ∙ ap text_len (take_rest bytes (p.1 + 1))) in
     let least : min 255 size ≡ kept = omega arith in
-    let sum : len + size ≡ len + kept + (size - kept) = omega arith in
-    ap (λ n. kept_behind n bytes) e
-    ∙ ap (λ n. take len bytes ++ (take (min 255 n) text ++ drop n text)) all
-    ∙ ap (λ n. take len bytes ++ (take n text ++ drop size text)) least
-    ∙ sym (append_assoc (take len bytes) (take kept text) (drop size text))
-    ∙ ap (λ l. l ++ drop size text) (sym (take-add len kept bytes))
-    ∙ ap (λ l. take (len + kept) bytes ++ l) (drop-drop size len bytes ∙ ap (λ n. drop n bytes) sum)
+    let sum : p.1 + 1 + kept + (size - kept) ≡ p.1 + 1 + size = omega arith in
+    rw (e, all, least, sum, take-add (p.1 + 1) kept bytes, append_assoc, drop-drop size (p.1 + 1) bytes) refl
 
 -- and with it
 pub cut_error : (bytes : List ℕ) (at discardable : ℕ) → 1 ≤ length bytes → get_or bytes 0 0 ≡ 69
-    → kept_behind (number_front places.Line (take (length bytes - 1) (drop 1 bytes))) (take (length bytes - 1) (drop 1 bytes))
+    → kept_behind (number_front Place.Line (take (length bytes - 1) (drop 1 bytes))) (take (length bytes - 1) (drop 1 bytes))
     ≡ take at (take (length bytes - 1) (drop 1 bytes)) ++ drop (at + discardable) (take (length bytes - 1) (drop 1 bytes))
     → kept_of bytes ≡ take (at + 1) bytes ++ drop (at + 1 + discardable) bytes
 unfolding kept_of

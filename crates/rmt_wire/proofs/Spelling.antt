@@ -1,12 +1,7 @@
 -- The bytes of a writer spell its reply or its request, also if the writer writes them in two parts.
-use Rattle.std.proofs.Common.{min, ◌≡◌, ℕ, ◌^◌, ◌<◌, ◌≤◌, List, [], ◌∷◌, ◌++◌, length, length-append, take, decimal, refl, sym, ap, subst, ◌∙◌, arith, append_assoc, append-nil, inl, zero, suc, ◌+◌, Option, Result, Ok, Err, OnErr}
-use Rattle.std.proofs.lemmas.Fmt.{decimal_is_IsNumeral, length-decimal-le}
-use Rattle.std.proofs.lemmas.List.{take-append-le, take_min, take_all, nil_from_length}
-use Rattle.std.proofs.Math.Seq.{take-append-add}
-use Rattle.std.proofs.KnownBytes.{Appends-trans}
-use Rattle.std.specs.Io.KnownBytes.{Appends}
-use Rattle.rmt_wire.proofs.Words.{SpellsNumber, IsLine, line_feed, READER_LIMIT, RECORD_LIMIT, IsWithin, PlainReply, Wanted, ReplyHasSpelling, AnswersTo, SpellsReply, data_length, reply_text, Done, Data, Error, PlainRequest, HasSpelling, SpellsRequest, request_text, unsent, IsTextOf, Open, Close, Write, WriteDropped, Read, Op, Number, DataUpTo, AppendsBeginning}
+use Rattle.rmt_wire.proofs.Words.{Err, List, Ok, OnErr, Option, Result, [], ap, append-nil, append_assoc, arith, decimal, inl, length, length-append, min, refl, subst, sym, take, ℕ, ◌++◌, ◌+◌, ◌∙◌, ◌∷◌, ◌≡◌, ◌≤◌, Appends-trans, take-append-add, nil_from_length, take-append-le, take_all, take_min, Appends, SpellsNumber, line_feed, IsLine, PlainRequest, SpellsRequest, HasSpelling, request_text, unsent, IsTextOf, WriteDropped, Open, Close, Write, Read, Op, PlainReply, Wanted, SpellsReply, ReplyHasSpelling, AnswersTo, data_length, reply_text, Error, Done, Data, Number, DataUpTo, IsWithin, AppendsBeginning, RECORD_LIMIT, READER_LIMIT}
 use Rattle.rmt_wire.proofs.Align.{digits_no_feed}
+use Rattle.std.proofs.lemmas.Fmt.{decimal_is_IsNumeral, length-decimal-le}
 
 -- a number as Rust prints it has at most ten digits
 pub decimal_is_short : (n : ℕ) → n ≤ 2147483647 → length (decimal n) ≤ 10
@@ -34,16 +29,12 @@ reply_text_spells (Error n text) spelled wanted answers =
 
 -- a number as Rust prints it is a line
 decimal_is_line : (n : ℕ) → n ≤ 2147483647 → IsLine (decimal n)
-decimal_is_line n small =
-    let s = decimal_spells n small in
-    let few = s.few in
-    (omega arith, digits_no_feed (decimal n) s.digits.1)
+decimal_is_line n small = (omega (arith, decimal_is_short n small), digits_no_feed (decimal n) (decimal_spells n small).digits.1)
 
 -- what spells the request with nothing after it
 whole_text : (request : PlainRequest) → unsent request ≡ 0 → SpellsRequest (request_text request) request → IsTextOf (request_text request) request
 whole_text request none s = λ more long.
-    let nothing : more ≡ [] = nil_from_length more (long ∙ none) in
-    subst (λ t. SpellsRequest t request) (sym (ap (λ l. request_text request ++ l) nothing ∙ append-nil (request_text request))) s
+    rw (nil_from_length more (long ∙ none), append-nil) s
 
 -- what a writer writes of a request spells it, once the data follow that were dropped
 pub request_text_spells : (request : PlainRequest) → HasSpelling request → IsTextOf (request_text request) request
@@ -60,20 +51,11 @@ request_text_spells (Op op count) h =
 
 -- what a writer writes of a reply fits into a reader, where its data are a record's
 pub short_reply : (reply : PlainReply) → ReplyHasSpelling reply → data_length reply ≤ RECORD_LIMIT → length (reply_text reply) ≤ READER_LIMIT
-short_reply (Done n) h few = omega (arith, length-append (decimal n) (line_feed ∷ []), decimal_is_short n h)
-short_reply (Data bytes) h few =
-    omega (arith, length-append (decimal (length bytes)) (line_feed ∷ bytes), decimal_is_short (length bytes) h)
-short_reply (Error n text) h few =
-    let number = decimal_is_short n h.0 in
-    let short = h.1 in
-    omega (arith, length-append (decimal n) (line_feed ∷ (text ++ line_feed ∷ [])), length-append text (line_feed ∷ []))
+short_reply reply h few = grind (arith, length-append {A = ℕ}, decimal_is_short)
 
 -- and they are where it answers one who may wait for it
 pub short_answer : (reply : PlainReply) (wanted : Wanted) → AnswersTo reply wanted → IsWithin wanted → data_length reply ≤ RECORD_LIMIT
-short_answer (Done n) wanted answers within = omega arith
-short_answer (Data bytes) Number answers within = absurd answers
-short_answer (Data bytes) (DataUpTo most) answers within = omega arith
-short_answer (Error n text) wanted answers within = omega arith
+short_answer reply wanted answers within = grind arith
 
 -- a beginning of the first part went out
 pub beginning_of_first : (old new : Option (List ℕ)) (first rest : List ℕ) → AppendsBeginning old new first → AppendsBeginning old new (first ++ rest)
@@ -84,8 +66,7 @@ beginning_of_first old new first rest (n, out) =
 pub beginning_past_first : (old mid new : Option (List ℕ)) (first rest : List ℕ) → Appends old mid first → AppendsBeginning mid new rest
     → AppendsBeginning old new (first ++ rest)
 beginning_past_first old mid new first rest whole (n, out) =
-    let both = Appends-trans old mid new first (take n rest) whole out in
-    (length first + n, subst (Appends old new) (sym (take-append-add first rest n)) both)
+    (length first + n, rw (take-append-add first rest n) (Appends-trans old mid new first (take n rest) whole out))
 
 -- what holds anyway holds at a failure
 pub at_failure : {T E P : Type 0} (r : Result T E) → P → OnErr r P

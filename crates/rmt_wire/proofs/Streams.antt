@@ -1,17 +1,15 @@
 -- Reading a stream up to its next request.
-use Rattle.std.proofs.Common.{◌≡◌, ℕ, Bool, false, not, is_some, ◌+◌, ◌≤◌, List, [], ◌∷◌, ◌++◌, length, Option, Some, None, Result, Ok, Err, refl, sym, subst, append_assoc, arith}
-use Rattle.std.specs.Io.KnownBytes.{Consumes}
-use Rattle.std.proofs.KnownBytes.{Consumes-trans, Consumes-kept}
-use Rattle.rmt_wire.proofs.Words.{PlainRequest, IsRequestPrefix, HasNoSpelling, RequestHeld, Unread, IsGiven, IsNext, plain_next_result, plain_front_result, IsFilled, IsNotFilled, Answers, IsReadNext, CountsNext, EndsAs, IsGivenWhole, GivesNext, IsSpelledIfSome, FallsIfSome, HasAnswered, GoesOn, most_left, plain_read_next_result, READER_LIMIT, Request, WireFault, StreamFault, Broken}
-use Rattle.std.specs.List.{flat_map}
-use Rattle.rmt_wire.proofs.Grammars.{open_or_fault}
+use Rattle.rmt_wire.proofs.Words.{Bool, Err, List, None, Ok, Option, Result, Some, [], append_assoc, arith, false, is_some, length, not, refl, subst, sym, ℕ, ◌++◌, ◌+◌, ◌∷◌, ◌≡◌, ◌≤◌, Consumes-kept, Consumes-trans, Consumes, flat_map, PlainRequest, IsRequestPrefix, HasNoSpelling, RequestHeld, Unread, IsNext, plain_front_result, IsGiven, plain_next_result, IsFilled, IsNotFilled, Answers, IsReadNext, CountsNext, EndsAs, IsGivenWhole, GivesNext, IsSpelledIfSome, FallsIfSome, HasAnswered, GoesOn, most_left, plain_read_next_result, WireFault, READER_LIMIT, Request, StreamFault, Broken}
+use Rattle.rmt_wire.proofs.Grammars.{none_past_fault}
 use Rattle.rmt_wire.proofs.Requests.{request_grammar}
-use Rattle.rmt_wire.proofs.Giving.{fault_of}
+use Rattle.rmt_wire.proofs.Giving.{fault_of, gives}
 use Rattle.rmt_wire.proofs.Given.{answered, answer_begun}
 
 -- bytes with a fault are no beginning of a request
 pub no_wait : (old new : RequestHeld) (fault : WireFault) (bytes : List ℕ) → IsNext old (Err fault) new → Unread old bytes → IsRequestPrefix bytes → ⊥
-no_wait old new fault bytes n u o = open_or_fault request_grammar bytes fault o (fault_of bytes fault (n.continues bytes u).2.0)
+no_wait old new fault bytes n u o =
+    let f = fault_of bytes fault (n.continues bytes u).2.0 in
+    none_past_fault request_grammar bytes fault f f.later bytes f.split o
 
 -- nor are those with a request
 pub no_wait_unless_none : (old new : RequestHeld) (found : Option (Request × ℕ)) (b : Bool) (bytes : List ℕ) → IsNext old (plain_front_result (Ok found)) new
@@ -38,32 +36,28 @@ module _ (left left' : Option (List ℕ)) (came : List ℕ) (consumed : Consumes
     λ output'' w. answers_on a (a.requests ++ request ∷ []) (gives a.read a.requests a.given)
         (answer_begun answer output output' output'' a.requests request a.written w),
   )
-  goes_on old new (Ok None) gives answer first output output' a = answers_on a a.requests (gives a.read a.requests a.given) a.written
-  goes_on old new (Err fault) gives answer first output output' a = answers_on a a.requests (gives a.read a.requests a.given) a.written
+  goes_on old new other gives answer first output output' a = answers_on a a.requests (gives a.read a.requests a.given) a.written
 
--- what is unread then
-still_unread : (left : Option (List ℕ)) (new : RequestHeld) (pushed : List ℕ) (requests : List PlainRequest)
-    (result : Result (Option PlainRequest) StreamFault) → GivesNext result left new pushed requests
-    → (rest : List ℕ) × Unread new rest
-still_unread left new pushed requests (Ok (Some request)) g = (g.0, g.1)
-still_unread left new pushed requests (Ok None) g = (g.0, g.1)
-still_unread left new pushed requests (Err fault) g = (g.0, g.1)
+  -- what is unread then
+  still_unread : (new : RequestHeld) (pushed : List ℕ) (requests : List PlainRequest) (result : Result (Option PlainRequest) StreamFault)
+      → GivesNext result left' new pushed requests → (rest : List ℕ) × Unread new rest
+  still_unread new pushed requests (Ok (Some request)) g = (g.0, g.1)
+  still_unread new pushed requests (Ok None) g = (g.0, g.1)
+  still_unread new pushed requests (Err fault) g = (g.0, g.1)
 
-is_read_next : (left left' : Option (List ℕ)) (reads reads' : ℕ) (old new : RequestHeld) (came : List ℕ) (result : Result (Option PlainRequest) StreamFault)
-    → ((bytes : List ℕ) × Unread old bytes)
-    → Consumes left left' came
-    → ((pushed : List ℕ) (requests : List PlainRequest) → IsGiven old pushed requests → GivesNext result left' new (pushed ++ came) requests)
-    → IsSpelledIfSome result
-    → FallsIfSome result (most_left reads old) (most_left reads' new) → IsReadNext left left' reads reads' old result new
-is_read_next left left' reads reads' old new came result unread consumed gives spelled falls = record {
-  came = came;
-  consumed = consumed;
-  gives_on = gives;
-  answers = goes_on left left' came consumed old new result gives;
-  unread = still_unread left' new (unread.0 ++ came) [] result (gives unread.0 [] (unread.0, unread.1, refl));
-  spelled = spelled;
-  falls = falls;
-}
+  is_read_next : (reads reads' : ℕ) (old new : RequestHeld) (result : Result (Option PlainRequest) StreamFault) → ((bytes : List ℕ) × Unread old bytes)
+      → ((pushed : List ℕ) (requests : List PlainRequest) → IsGiven old pushed requests → GivesNext result left' new (pushed ++ came) requests)
+      → IsSpelledIfSome result
+      → FallsIfSome result (most_left reads old) (most_left reads' new) → IsReadNext left left' reads reads' old result new
+  is_read_next reads reads' old new result unread gives spelled falls = record {
+    came = came;
+    consumed = consumed;
+    gives_on = gives;
+    answers = goes_on old new result gives;
+    unread = still_unread new (unread.0 ++ came) [] result (gives unread.0 [] (unread.0, unread.1, refl));
+    spelled = spelled;
+    falls = falls;
+  }
 
 -- these bytes came of the stream, and what was given before stays given
 pub record HasCome (left left' : Option (List ℕ)) (reads reads' : ℕ) (old new : RequestHeld) : Type 0 where
@@ -79,9 +73,7 @@ still_come {left} {left'} {reads} {reads'} {old} h same = subst (HasCome left le
 module _ {left mid : Option (List ℕ)} {reads reads' : ℕ} {old now : RequestHeld} (first : (bytes : List ℕ) × Unread old bytes)
     (h : HasCome left mid reads reads' old now) where
   pub unread_now : (rest : List ℕ) × Unread now rest
-  unread_now =
-      let g = h.given first.0 [] (first.0, first.1, refl) in
-      (g.0, g.1)
+  unread_now = let g = h.given first.0 [] (first.0, first.1, refl) in (g.0, g.1)
 
   pub more_came : {left' : Option (List ℕ)} {reads'' count : ℕ} {new : RequestHeld} → IsFilled mid left' now new count → reads'' + 1 ≡ reads'
       → length new.kept ≤ READER_LIMIT
@@ -104,11 +96,11 @@ module _ {left mid : Option (List ℕ)} {reads reads' : ℕ} {old now : RequestH
         (g.0, subst (λ held. Unread held g.0) (sym n.1) g.1, g.2, ends g.0 g.1)
 
     pub ended : ((rest : List ℕ) → Unread now rest → EndsAs (Ok tt) left' rest) → IsReadNext left left' reads reads'' old (Ok None) new
-    ended ends = is_read_next _ _ _ _ _ _ h.came _ first (Consumes-kept _ _ _ h.came h.consumed n.0) (given_whole (Ok tt) ends) tt tt
+    ended ends = is_read_next _ _ h.came (Consumes-kept _ _ _ h.came h.consumed n.0) _ _ _ _ _ first (given_whole (Ok tt) ends) tt tt
 
     pub failed : (fault : StreamFault) → ((rest : List ℕ) → Unread now rest → EndsAs (Err fault) left' rest)
         → IsReadNext left left' reads reads'' old (Err fault) new
-    failed fault ends = is_read_next _ _ _ _ _ _ h.came _ first (Consumes-kept _ _ _ h.came h.consumed n.0) (given_whole (Err fault) ends) tt tt
+    failed fault ends = is_read_next _ _ h.came (Consumes-kept _ _ _ h.came h.consumed n.0) _ _ _ _ _ first (given_whole (Err fault) ends) tt tt
 
   pub next_given : (given : Option Request) (new : RequestHeld) → ((rest : List ℕ) → Unread now rest → ¬ (IsRequestPrefix rest × HasNoSpelling rest))
       → IsNext now (plain_next_result (Ok given)) new
@@ -122,12 +114,12 @@ module _ {left mid : Option (List ℕ)} {reads reads' : ℕ} {old now : RequestH
       let given = n.continues rest.0 rest.1 in
       let shrinks = n.shrinks in
       let before = h.falls in
-      is_read_next _ _ _ _ _ _ h.came _ first h.consumed (λ pushed requests g. n.gives_on (pushed ++ h.came) requests (h.given pushed requests g))
+      is_read_next _ _ h.came h.consumed _ _ _ _ _ first (λ pushed requests g. n.gives_on (pushed ++ h.came) requests (h.given pushed requests g))
       (given.2.0, given.2.1) (omega arith)
 
   pub next_broken : (fault : WireFault) (new : RequestHeld) → IsNext now (plain_next_result (Err fault)) new
       → IsReadNext left mid reads reads' old (Err (Broken fault)) new
-  next_broken fault new n = is_read_next _ _ _ _ _ _ h.came _ first h.consumed
+  next_broken fault new n = is_read_next _ _ h.came h.consumed _ _ _ _ _ first
       (λ pushed requests g.
       let w = n.gives_on (pushed ++ h.came) requests (h.given pushed requests g) in
       (w.0, w.1, w.2, (w.3, w.4)))
@@ -135,5 +127,4 @@ module _ {left mid : Option (List ℕ)} {reads reads' : ℕ} {old now : RequestH
 
 -- what is no failed read counts no failure
 pub counts_none : (given : Option Request) (failures failures' : ℕ) → failures' ≡ failures → CountsNext (plain_read_next_result (Ok given)) failures failures'
-counts_none None failures failures' same = same
-counts_none (Some request) failures failures' same = same
+counts_none given failures failures' same = grind arith

@@ -1,27 +1,19 @@
 -- The text of an error, as it is read and as it is kept.
-use Rattle.std.proofs.Common.{◌≡◌, ℕ, zero, suc, ◌⊎◌, Bool, true, false, eqb, min, List, [], ◌∷◌, ◌++◌, length, take, drop, refl, sym, ap, subst, cond, if◌then◌else◌, ◌≤◌, ◌+◌, ◌==◌, ltb, Some, None, ◌∙◌, arith, append_assoc, append-nil, inl, inr, ⊎_elim}
-use Rattle.std.proofs.lemmas.Bool.Decides.{nat_tests}
-use Rattle.std.proofs.lemmas.List.{take-take, length-append, length-take, length-drop, take_min, take-append-le, drop_at, drop_all}
-use Rattle.std.specs.List.{position}
-use Rattle.std.specs.Option.{unwrap_or}
-use Rattle.std.proofs.lemmas.List.Recursion.{is_position_or_len}
-use Rattle.rmt_wire.proofs.Words.{HasNoLineFeed, line_feed, text_len, kept_text}
-use Rattle.rmt_wire.proofs.Numbers.{by_test, on}
+use Rattle.rmt_wire.proofs.Words.{Bool, List, None, Some, [], ap, append-nil, append_assoc, arith, cond, eqb, if◌then◌else◌, inl, inr, length, length-append, length-drop, ltb, min, refl, subst, suc, sym, take, zero, ℕ, ⊎_elim, ◌++◌, ◌+◌, ◌==◌, ◌∙◌, ◌∷◌, ◌≡◌, ◌≤◌, ◌⊎◌, nat_tests, drop_all, drop_at, length-take, take-append-le, take-take, take_min, position, unwrap_or, line_feed, HasNoLineFeed, text_len, kept_text}
 use Rattle.rmt_wire.proofs.Align.{no_feed_append}
+use Rattle.rmt_wire.proofs.Numbers.{on}
+use Rattle.std.proofs.lemmas.List.Recursion.{is_position_or_len}
 
 -- the place of the first line feed, if there is one, and else the length
 not_longer : (text : List ℕ) → text_len text ≤ length text
 not_longer [] = omega arith
-not_longer (b ∷ text) = let later = not_longer text in
-    by_test (λ n. n ≤ suc (length text)) (b == line_feed) 0 (suc (text_len text)) (λ ends. omega arith) (λ other. omega arith)
+not_longer (b ∷ text) = grind (arith, not_longer text)
 
 step_at : (n : ℕ) (test : Bool) → (if test then 0 else suc n) ≡ cond test 0 (1 + n)
-step_at n true = refl
-step_at n false = omega arith
+step_at n test = grind arith
 
 found_at : (n len : ℕ) (test : Bool) → ltb n len ≡ test → n ≤ len → unwrap_or (cond test (Some n) None) len ≡ n
-found_at n len true e h = refl
-found_at n len false e h = grind (arith, nat_tests)
+found_at n len test e h = grind (arith, nat_tests)
 
 pub found_len : (text : List ℕ) → unwrap_or (position (λ b. b == line_feed) text) (length text) ≡ text_len text
 found_len text =
@@ -33,18 +25,12 @@ found_len text =
 -- a line ends at its line feed
 pub ended_len : (line rest : List ℕ) → HasNoLineFeed line → text_len (line ++ line_feed ∷ rest) ≡ length line
 ended_len [] rest h = refl
-ended_len (b ∷ line) rest h =
-    let other = h.0 in
-    let no_end : eqb b line_feed ≡ false = grind (arith, nat_tests) in
-    rw no_end (ap suc (ended_len line rest h.1))
+ended_len (b ∷ line) rest h = grind (arith, nat_tests, ended_len line rest h.1)
 
 -- and without one it is all that there is
 pub open_len : (line : List ℕ) → HasNoLineFeed line → text_len line ≡ length line
 open_len [] h = refl
-open_len (b ∷ line) h =
-    let other = h.0 in
-    let no_end : eqb b line_feed ≡ false = grind (arith, nat_tests) in
-    rw no_end (ap suc (open_len line h.1))
+open_len (b ∷ line) h = grind (arith, nat_tests, open_len line h.1)
 
 -- a text has a line feed, or none
 abbrev pub TextView : List ℕ → Type 0
@@ -74,25 +60,17 @@ take_twice n xs = take-take n n xs (omega arith)
 
 -- no more of a text is kept than there is
 pub kept_text_few : (text : List ℕ) → length (kept_text text) ≤ length text
-kept_text_few text =
-    let size = text_len text in
-    omega (arith, length-append (take (min 255 size) text) (drop size text), length-take (min 255 size) text, length-drop size text, not_longer text)
+kept_text_few text = omega (arith, length-append {A = ℕ}, length-take {A = ℕ}, length-drop {A = ℕ}, not_longer text)
 
 -- of a line the first 255 bytes are kept
 pub kept_open : (line : List ℕ) → HasNoLineFeed line → kept_text line ≡ take 255 line
-kept_open line h =
-    ap (λ n. take (min 255 n) line ++ drop n line) (open_len line h)
-    ∙ ap (λ l. l ++ drop (length line) line) (take_min 255 line)
-    ∙ ap (λ l. take 255 line ++ l) (drop_all (length line) line (omega arith))
-    ∙ append-nil (take 255 line)
+kept_open line h = rw (open_len line h, take_min 255 line, drop_all (length line) line (omega arith)) (append-nil (take 255 line))
 
 -- and all that stands from its line feed on
 pub kept_ended : (line rest : List ℕ) → HasNoLineFeed line → kept_text (line ++ line_feed ∷ rest) ≡ take 255 line ++ line_feed ∷ rest
 kept_ended line rest h =
-    ap (λ n. take (min 255 n) (line ++ line_feed ∷ rest) ++ drop n (line ++ line_feed ∷ rest)) (ended_len line rest h)
-    ∙ ap (λ l. l ++ drop (length line) (line ++ line_feed ∷ rest))
-    (take-append-le (min 255 (length line)) line (line_feed ∷ rest) (omega arith) ∙ take_min 255 line)
-    ∙ ap (λ l. take 255 line ++ l) (drop_at line (line_feed ∷ rest) (length line) refl)
+    rw (ended_len line rest h, take-append-le (min 255 (length line)) line (line_feed ∷ rest) (omega arith), take_min 255 line)
+    (ap (λ l. take 255 line ++ l) (drop_at line (line_feed ∷ rest) (length line) refl))
 
 -- what was kept is kept again, with more after it
 again_open : (text piece : List ℕ) → HasNoLineFeed text → TextView piece → kept_text (take 255 text ++ piece) ≡ kept_text (text ++ piece)
@@ -110,19 +88,13 @@ again_open text piece h v =
 
 again_ended : (line rest piece : List ℕ) → HasNoLineFeed line
     → kept_text ((take 255 line ++ line_feed ∷ rest) ++ piece) ≡ kept_text ((line ++ line_feed ∷ rest) ++ piece)
-again_ended line rest piece h =
-    ap kept_text (append_assoc (take 255 line) (line_feed ∷ rest) piece)
-    ∙ kept_ended (take 255 line) (rest ++ piece) (take_no_feed 255 line h)
-    ∙ ap (λ l. l ++ line_feed ∷ (rest ++ piece)) (take_twice 255 line)
-    ∙ sym (ap kept_text (append_assoc line (line_feed ∷ rest) piece) ∙ kept_ended line (rest ++ piece) h)
+again_ended line rest piece h = rw (append_assoc (take 255 line) (line_feed ∷ rest) piece, append_assoc line (line_feed ∷ rest) piece)
+    (kept_ended (take 255 line) (rest ++ piece) (take_no_feed 255 line h) ∙ ap (λ l. l ++ line_feed ∷ (rest ++ piece)) (take_twice 255 line)
+    ∙ sym (kept_ended line (rest ++ piece) h))
 
 pub kept_again : (text piece : List ℕ) → kept_text (kept_text text ++ piece) ≡ kept_text (text ++ piece)
 kept_again text piece =
-    ⊎_elim
-    (λ h. ap (λ l. kept_text (l ++ piece)) (kept_open text h) ∙ again_open text piece h (text_view piece))
-    (λ w.
-    ap (λ l. kept_text (kept_text l ++ piece)) w.3
-    ∙ ap (λ l. kept_text (l ++ piece)) (kept_ended w.0 w.1 w.2)
-    ∙ again_ended w.0 w.1 piece w.2
-    ∙ ap (λ l. kept_text (l ++ piece)) (sym w.3))
+    ⊎_elim (λ h. ap (λ l. kept_text (l ++ piece)) (kept_open text h) ∙ again_open text piece h (text_view piece))
+    (λ w. ap (λ l. kept_text (kept_text l ++ piece)) w.3 ∙ ap (λ l. kept_text (l ++ piece)) (kept_ended w.0 w.1 w.2)
+    ∙ again_ended w.0 w.1 piece w.2 ∙ ap (λ l. kept_text (l ++ piece)) (sym w.3))
     (text_view text)

@@ -1,6 +1,4 @@
-use Rattle.std.proofs.Common.{◌≡◌, ℕ, ◌+◌, ◌-◌, ◌≤◌, List, length, take, drop, ◌++◌, sym, ap, ◌∙◌, arith, length-append}
-use Rattle.std.proofs.Math.Seq.{take-append-add}
-use Rattle.std.proofs.lemmas.List.{take-take, take-append-le, length-take, length-drop}
+use Rattle.rmt_wire.proofs.Words.{List, ap, arith, length, length-append, length-drop, sym, take, ℕ, ◌++◌, ◌+◌, ◌∙◌, ◌≡◌, ◌≤◌, take-append-add, length-take, take-append-le, take-take}
 use Rattle.rmt_wire.proofs.kept.append_read.Goals as goal
 
 -- what a read leaves after the bytes kept, cut to what it gave
@@ -24,16 +22,7 @@ returns-in-Ok-clause-came g c =
     ∙ c.advance_mut.ensures.front in
     let size = ap (length {A = ℕ}) c.as_mut_slice.ensures.value in
     let fits : length old + count ≤ length c.advance_mut.new.self.items =
-    omega (
-      arith,
-      within.0,
-      c.read.auto.buf,
-      size,
-      len,
-      c.advance_mut.ensures.len,
-      length-take (length seen - c.len-len.result) (drop c.len-len.result seen),
-      length-drop c.len-len.result seen,
-    ) in (
+    omega (arith, within.0, c.read.auto.buf, size, len, c.advance_mut.ensures.len, length-take {A = ℕ}, length-drop {A = ℕ}) in (
       take count buf,
       sym within.1,
       read_behind old (take c.len-len.result seen) buf _ _ _ c.len-len.result count _ c.truncate.ensures.items len front within.0 fits,

@@ -1,5 +1,4 @@
-use Rattle.std.proofs.Common.{◌+◌, ◌≤◌, arith}
-use Rattle.std.proofs.lemmas.Grind.{common_steps}
+use Rattle.rmt_wire.proofs.Words.{arith, ◌+◌, ◌≤◌, common_steps}
 use Rattle.rmt_wire.proofs.number.number_front.Goals as goal
 
 pub loop-len-preserved : goal.loop-len-preserved

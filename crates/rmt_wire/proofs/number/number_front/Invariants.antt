@@ -1,5 +1,4 @@
-use Rattle.std.proofs.Common.{◌≡◌, ◌≤◌, drop}
-use Rattle.rmt_wire.specs.Parsed.{number_from, number_front}
+use Rattle.rmt_wire.proofs.Words.{drop, ◌≡◌, ◌≤◌, number_front, number_from}
 use Rattle.rmt_wire.proofs.number.number_front.Given as goal
 
 -- the number goes on as the rest says

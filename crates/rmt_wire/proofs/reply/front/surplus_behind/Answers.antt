@@ -1,4 +1,4 @@
-use Rattle.std.proofs.Common.{Ok, sym, ap, ◌∙◌}
+use Rattle.rmt_wire.proofs.Words.{Ok, ap, sym, ◌∙◌}
 use Rattle.rmt_wire.proofs.ReplyNexts.{cut_behind}
 use Rattle.rmt_wire.proofs.reply.front.surplus_behind.Goals as goal
 

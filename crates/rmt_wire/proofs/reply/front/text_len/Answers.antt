@@ -1,5 +1,4 @@
-use Rattle.std.proofs.Common.{length, ap, ◌∙◌}
-use Rattle.std.specs.Option.{unwrap_or}
+use Rattle.rmt_wire.proofs.Words.{ap, length, ◌∙◌, unwrap_or}
 use Rattle.rmt_wire.proofs.Texts.{found_len}
 use Rattle.rmt_wire.proofs.reply.front.text_len.Goals as goal
 

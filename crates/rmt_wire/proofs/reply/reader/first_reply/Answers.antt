@@ -1,5 +1,4 @@
-use Rattle.std.proofs.Common.{subst, sym}
-use Rattle.rmt_wire.proofs.Words.{plain_wanted, plain_wanted_if_some, reply_held, IsWithinIfSome, ReplyIsNext, plain_reply_front_result, reply_held_after}
+use Rattle.rmt_wire.proofs.Words.{subst, sym, reply_held, ReplyIsNext, plain_reply_front_result, reply_held_after, IsWithinIfSome, plain_wanted, plain_wanted_if_some}
 use Rattle.rmt_wire.proofs.ReplyNexts.{some_next}
 use Rattle.rmt_wire.proofs.reply.reader.first_reply.Goals as goal
 

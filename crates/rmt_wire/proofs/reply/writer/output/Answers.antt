@@ -1,9 +1,4 @@
-use Rattle.std.proofs.lemmas.Grind.{common_steps}
-use Rattle.std.proofs.Common.{◌≡◌, ◌+◌, ◌-◌, ◌++◌, length, take, drop, sym, subst, arith, length-drop, rules}
-use Rattle.std.proofs.Math.Seq.{take-add}
-use Rattle.std.proofs.lemmas.List.{take_all}
-use Rattle.std.proofs.KnownBytes.{Appends-trans}
-use Rattle.std.specs.Io.KnownBytes.{Appends}
+use Rattle.rmt_wire.proofs.Words.{arith, drop, length, length-drop, rules, subst, sym, take, ◌++◌, ◌+◌, ◌-◌, ◌≡◌, Appends-trans, take-add, common_steps, take_all, Appends}
 use Rattle.rmt_wire.proofs.reply.writer.output.Goals as goal
 
 pub loop-at-preserved : goal.loop-at-preserved

@@ -1,5 +1,4 @@
-use Rattle.std.proofs.Common.{◌≡◌, ◌-◌, ◌≤◌, length, take}
-use Rattle.std.specs.Io.KnownBytes.{Appends}
+use Rattle.rmt_wire.proofs.Words.{length, take, ◌-◌, ◌≡◌, ◌≤◌, Appends}
 use Rattle.rmt_wire.proofs.reply.writer.output.Given as goal
 
 abbrev pub invariant-loop-at : goal.invariant-loop-at

@@ -1,8 +1,5 @@
-use Rattle.rmt_wire.specs.Lent.{plain_reply}
-use Rattle.std.proofs.lemmas.Grind.{common_steps}
-use Rattle.std.proofs.Common.{arith}
-use Rattle.std.proofs.lemmas.Result.{on_err_weaker}
-use Rattle.rmt_wire.proofs.Spelling.{beginning_of_first, beginning_past_first, at_failure, reply_text_spells}
+use Rattle.rmt_wire.proofs.Words.{on_err_weaker, plain_reply}
+use Rattle.rmt_wire.proofs.Spelling.{reply_text_spells, beginning_of_first, beginning_past_first, at_failure}
 use Rattle.rmt_wire.proofs.reply.writer.write_reply.Goals as goal
 
 pub returns-in_err-output-clause-beginning : goal.returns-in_err-output-clause-beginning
@@ -20,6 +17,3 @@ returns-in_err-output-clause-spelled g c = reply_text_spells (plain_reply c.args
 
 pub returns-clause-spelled : goal.returns-clause-spelled
 returns-clause-spelled g c = reply_text_spells (plain_reply c.args.reply.now) c.requires
-
-pub returns-clause-written : goal.returns-clause-written
-returns-clause-written g c = grind (arith, common_steps)

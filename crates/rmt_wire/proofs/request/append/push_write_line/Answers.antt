@@ -1,5 +1,4 @@
-use Rattle.std.proofs.Common.{◌≡◌, ◌≤◌, ℕ, List, length, sym, subst}
-use Rattle.rmt_wire.proofs.Words.{RECORD_LIMIT, IsTextOf, request_text, Write}
+use Rattle.rmt_wire.proofs.Words.{List, length, subst, sym, ℕ, ◌≡◌, ◌≤◌, request_text, IsTextOf, Write, RECORD_LIMIT}
 use Rattle.rmt_wire.proofs.Spelling.{request_text_spells}
 use Rattle.rmt_wire.proofs.request.append.push_write_line.Goals as goal
 

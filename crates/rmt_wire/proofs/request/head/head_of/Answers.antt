@@ -1,7 +1,4 @@
-use Rattle.std.proofs.Common.{arith}
-use Rattle.std.proofs.lemmas.Grind.{common_steps}
-use Rattle.rmt_wire.specs.RequestFront.{head_of}
-use Rattle.rmt_wire.specs.RequestFront.{letter_head}
+use Rattle.rmt_wire.proofs.Words.{arith, common_steps, head_of, letter_head}
 use Rattle.rmt_wire.proofs.request.head.head_of.Goals as goal
 
 pub returns-in-79-clause-value : goal.returns-in-79-clause-value

@@ -1,5 +1,4 @@
-use Rattle.std.proofs.Common.{◌≡◌, drop}
-use Rattle.rmt_wire.specs.RequestFront.{line_from, line_front}
+use Rattle.rmt_wire.proofs.Words.{drop, ◌≡◌, line_from, line_front}
 use Rattle.rmt_wire.proofs.request.line.line_front.Given as goal
 
 -- the line goes on as the rest says

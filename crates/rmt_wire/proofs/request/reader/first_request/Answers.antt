@@ -1,8 +1,7 @@
-use Rattle.std.proofs.Common.{Ok, sym, ◌∙◌, arith}
-use Rattle.rmt_wire.specs.RequestReader.{dropped_line}
+use Rattle.rmt_wire.proofs.Words.{Ok, arith, sym, ◌∙◌, dropped_line}
+use Rattle.rmt_wire.proofs.WriteLines.{no_line, short_line, long_line, write_front}
 use Rattle.rmt_wire.proofs.Dropped.{within_some}
 use Rattle.rmt_wire.proofs.Nexts.{plain_next, plain_faulty, whole_next, less_next, line_some}
-use Rattle.rmt_wire.proofs.WriteLines.{no_line, short_line, long_line, write_front}
 use Rattle.rmt_wire.proofs.request.reader.first_request.Goals as goal
 
 pub returns-in_default-clause-next : goal.returns-in_default-clause-next

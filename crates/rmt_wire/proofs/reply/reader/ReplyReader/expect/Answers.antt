@@ -1,5 +1,4 @@
-use Rattle.std.proofs.Common.{None, [], drop, subst, sym, ◌∙◌, ap}
-use Rattle.rmt_wire.proofs.Words.{plain_wanted, ReplyUnread, reply_held}
+use Rattle.rmt_wire.proofs.Words.{None, [], ap, drop, subst, sym, ◌∙◌, reply_held, ReplyUnread, plain_wanted}
 use Rattle.rmt_wire.proofs.ReplyNexts.{expected}
 use Rattle.rmt_wire.proofs.reply.reader.ReplyReader.expect.Goals as goal
 

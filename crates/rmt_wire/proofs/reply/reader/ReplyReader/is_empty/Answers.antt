@@ -1,5 +1,4 @@
-use Rattle.std.proofs.Common.{[], subst}
-use Rattle.rmt_wire.proofs.Words.{plain_wanted_if_some, ReplyUnread}
+use Rattle.rmt_wire.proofs.Words.{[], subst, ReplyUnread, plain_wanted_if_some}
 use Rattle.rmt_wire.proofs.ReplyNexts.{all_given}
 use Rattle.rmt_wire.proofs.reply.reader.ReplyReader.is_empty.Goals as goal
 

@@ -1,6 +1,4 @@
-use Rattle.std.proofs.lemmas.Grind.{common_steps}
-use Rattle.std.proofs.Common.{drop, take, subst, sym, ◌∙◌, arith}
-use Rattle.rmt_wire.specs.ReplyReader.{ReplyUnread}
+use Rattle.rmt_wire.proofs.Words.{arith, drop, subst, sym, take, ◌∙◌, common_steps, ReplyUnread}
 use Rattle.rmt_wire.proofs.ReplyNexts.{push_kept}
 use Rattle.rmt_wire.proofs.reply.reader.ReplyReader.push.Goals as goal
 

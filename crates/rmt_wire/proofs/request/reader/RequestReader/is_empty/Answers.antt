@@ -1,5 +1,4 @@
-use Rattle.std.proofs.Common.{[], subst}
-use Rattle.rmt_wire.specs.RequestReader.{Unread}
+use Rattle.rmt_wire.proofs.Words.{[], subst, Unread}
 use Rattle.rmt_wire.proofs.Nexts.{all_given}
 use Rattle.rmt_wire.proofs.request.reader.RequestReader.is_empty.Goals as goal
 

@@ -1,4 +1,4 @@
-use Rattle.std.proofs.Common.{sym, ◌∙◌}
+use Rattle.rmt_wire.proofs.Words.{sym, ◌∙◌}
 use Rattle.rmt_wire.proofs.Nexts.{seen_from}
 use Rattle.rmt_wire.proofs.Streams.{no_wait, no_wait_unless_none}
 use Rattle.rmt_wire.proofs.request.reader.RequestReader.is_waiting.Goals.{in-Ok, in-Err}
@@ -6,7 +6,7 @@ use Rattle.rmt_wire.proofs.request.reader.RequestReader.is_waiting.Goals as goal
 
 pub returns-clause-enough : goal.returns-clause-enough
 returns-clause-enough c = λ f bytes u w.
-    let seen = seen_from c.as_slice.result.now c.self.inside.buffer.items c.self.inside.start c.as_slice.ensures in
+    let seen = seen_from _ _ c.as_slice.ensures in
     elim c.match-first_request.branch [
       | in-Ok b ↦ no_wait_unless_none _ _ b.in-Ok.found b.is_none.result bytes (rw (b.in-Ok.is, seen) at c.first_request.ensures.next) b.is_none.ensures
           (sym b.result-is ∙ f) (rw b.self-inside-is at u) w.1

@@ -1,5 +1,4 @@
-use Rattle.std.proofs.Common.{rules, [], subst, sym}
-use Rattle.rmt_wire.specs.RequestReader.{Unread, held}
+use Rattle.rmt_wire.proofs.Words.{[], rules, subst, sym, held, Unread}
 use Rattle.rmt_wire.proofs.Dropped.{unread_whole}
 use Rattle.rmt_wire.proofs.request.reader.RequestReader.new.Goals as goal
 

@@ -1,5 +1,4 @@
-use Rattle.std.proofs.Common.{sym, subst, drop}
-use Rattle.rmt_wire.specs.RequestReader.{IsGiven}
+use Rattle.rmt_wire.proofs.Words.{drop, subst, sym, IsGiven}
 use Rattle.rmt_wire.proofs.Given.{more_given}
 use Rattle.rmt_wire.proofs.request.reader.RequestReader.push.Goals as goal
 

@@ -1,5 +1,4 @@
-use Rattle.std.proofs.Common.{refl, ◌∙◌, subst, sym, ap, arith}
-use Rattle.rmt_wire.proofs.Words.{raised, Unread, Truncated, Input}
+use Rattle.rmt_wire.proofs.Words.{ap, arith, refl, subst, sym, ◌∙◌, Unread, raised, Truncated, Input}
 use Rattle.rmt_wire.proofs.Streams.{still_come, unread_now, more_came, ended, failed, next_given, next_broken, counts_none}
 use Rattle.rmt_wire.proofs.request.reader.RequestReader.read_next.Goals as goal
 

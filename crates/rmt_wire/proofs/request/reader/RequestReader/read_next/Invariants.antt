@@ -1,4 +1,4 @@
-use Rattle.std.proofs.Common.{◌≡◌}
+use Rattle.rmt_wire.proofs.Words.{◌≡◌}
 use Rattle.rmt_wire.proofs.Streams.{HasCome}
 use Rattle.rmt_wire.proofs.request.reader.RequestReader.read_next.Given as goal
 
