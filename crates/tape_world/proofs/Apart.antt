@@ -1,6 +1,5 @@
 -- When no two reels of some drives have one name.
-use Rattle.tape_world.proofs.Standard.{common_steps, ◌≡◌, ◌↔◌, ℕ, ◌+◌, ◌-◌, ◌≤◌, Bool, true, false, not, ◌&&◌, ◌||◌, List, [], ◌∷◌, ◌++◌, length, take, drop, map, refl, sym, ap, ◌∙◌, arith, flat_map, list_any, bytes_eq, take_all, length-drop, length-map, drop-drop, list_any-append, flat_map-map, flat_map-cons}
-use Rattle.tape_world.proofs.Layers.{are_distinct, any_lent, DriveSpec, AreGoodDrives, plain_drive_spec, reels_of, reel_again, names_again}
+use Rattle.tape_world.proofs.Layers.{common_steps, ◌≡◌, ◌↔◌, ℕ, ◌+◌, ◌-◌, ◌≤◌, Bool, true, false, not, ◌&&◌, ◌||◌, List, [], ◌∷◌, ◌++◌, length, take, drop, map, refl, sym, ap, ◌∙◌, arith, flat_map, list_any, bytes_eq, take_all, length-drop, length-map, drop-drop, list_any-append, flat_map-map, flat_map-cons, are_distinct, any_lent, DriveSpec, AreGoodDrives, plain_drive_spec, reels_of, reel_again, names_again}
 use Rattle.drives.specs.declared.holds.TheConstants.{DRIVE_LIMIT}
 
 -- the names of all reels
@@ -10,32 +9,21 @@ all_reels drives = flat_map reels_of drives
 names_flat : (drives : List DriveSpec) (name : List ℕ) → names_again drives name ≡ list_any (bytes_eq name) (all_reels drives)
 names_flat [] name = refl
 names_flat (d ∷ drives) name =
-    ap (λ b. list_any (λ n. bytes_eq name n.now) d.reels.now || b) (names_flat drives name)
-    ∙ ap (λ b. b || list_any (bytes_eq name) (all_reels drives)) (sym (any_lent (λ n. n.now) name d.reels.now))
-    ∙ sym (list_any-append (bytes_eq name) (reels_of d) (all_reels drives))
-    ∙ ap (list_any (bytes_eq name)) (sym (flat_map-cons reels_of d drives))
+    let same = any_lent (λ n. n.now) name d.reels.now in
+    grind (arith, names_flat drives name, same, list_any-append (bytes_eq name) (reels_of d) (all_reels drives), flat_map-cons reels_of d drives)
 
 any_same : {A : Type 0} (f : A → List ℕ) (p : A → Bool) (q : List ℕ → Bool) → ((x : A) → p x ≡ q (f x)) → (xs : List A) → list_any p xs ≡ list_any q (map f xs)
 any_same f p q same [] = refl
 any_same f p q same (x ∷ xs) = ap (λ b. b || list_any p xs) (same x) ∙ ap (λ b. q (f x) || b) (any_same f p q same xs)
 
-shuffled : (a b c d e : Bool) → (not (a || b) && ((c && not d) && e)) ≡ (((not a && c) && not (b || d)) && e)
-shuffled a b c d e = grind (arith, common_steps)
-
 distinct_append : (xs ys : List (List ℕ))
     → are_distinct (xs ++ ys) ≡ ((are_distinct xs && not (list_any (λ n. list_any (bytes_eq n) ys) xs)) && are_distinct ys)
 distinct_append [] ys = refl
-distinct_append (x ∷ xs) ys =
-    ap (λ b. not b && are_distinct (xs ++ ys)) (list_any-append (bytes_eq x) xs ys)
-    ∙ ap (λ b. not (list_any (bytes_eq x) xs || list_any (bytes_eq x) ys) && b) (distinct_append xs ys)
-    ∙ shuffled (list_any (bytes_eq x) xs) (list_any (bytes_eq x) ys) (are_distinct xs) (list_any (λ n. list_any (bytes_eq n) ys) xs) (are_distinct ys)
-
-turned : (a b c : Bool) → ((a && not b) && c) ≡ (not (not a || b) && c)
-turned a b c = grind (arith, common_steps)
+distinct_append (x ∷ xs) ys = grind (arith, common_steps, list_any-append (bytes_eq x) xs ys, distinct_append xs ys)
 
 first_apart : (d : DriveSpec) (drives : List DriveSpec)
     → are_distinct (all_reels (d ∷ drives)) ≡ (not (reel_again (d ∷ drives)) && are_distinct (all_reels drives))
-first_apart d drives = grind (arith, common_steps, any_same, names_flat, flat_map-cons, distinct_append, turned)
+first_apart d drives = grind (arith, common_steps, any_same, names_flat, flat_map-cons, distinct_append)
 
 again : (drives : List DriveSpec) → reel_again drives ≡ true → are_distinct (all_reels drives) ≡ false
 again drives h = grind (arith, common_steps, first_apart)

@@ -1,6 +1,5 @@
 -- What calls of the client leave of a world.
-use Rattle.tape_world.proofs.Standard.{common_steps, arith, ◌≡◌, ◌↔◌, Bool, true, List, option_map, Option, Some}
-use Rattle.tape_world.proofs.Layers.{plain_entry, PlainRun, standing, state_of, stage_after, TellsEntry, Stage, Asking, Finished, Answer, World, WorldClient, StandsIn, caller, entry_of, RealBegun, RealCaller, seen_caller, IsSameRun, ClientAnswers, IsSourced}
+use Rattle.tape_world.proofs.Layers.{common_steps, arith, ◌≡◌, ◌↔◌, Bool, true, List, option_map, Option, Some, plain_entry, PlainRun, standing, state_of, stage_after, TellsEntry, Stage, Asking, Finished, Answer, World, WorldClient, StandsIn, caller, entry_of, RealBegun, RealCaller, seen_caller, IsSameRun, ClientAnswers, IsSourced, None, ReplyHeld}
 use Rattle.dumpdates.specs.declared.entry.Entry.{Entry}
 use Rattle.dump_client.specs.declared.stage.State.{State}
 use Rattle.dump_client.specs.declared.stage.State.TheVariants as told
@@ -10,24 +9,13 @@ pub stands : (w : World) (o : Option RealCaller) (c : RealCaller) (tells state :
     → tells ≡ state_of c.client.at.stage → (r ≡ true) ↔ (tells ≡ state) → (r ≡ true) ↔ StandsIn w (λ stage. state_of stage ≡ state)
 stands w o c tells state r is there stage same = grind (arith, common_steps)
 
--- the client that took it
-pub record IsAnswered (o : Option RealCaller) (answer : Answer) (new : Option RealCaller) : Type 0 where
-  pub before : RealCaller
-  pub after : RealCaller
-  pub was : o ≡ Some before
-  pub is : new ≡ Some after
-  pub same : IsSameRun before after
-  pub asks : before.client.at.stage ≡ Asking
-  pub at : after.client.at ≡ standing before.client.at.run before.client.at.counts (stage_after answer)
-
+-- the client that took the operator's answer
 pub answered : (o new : Option RealCaller) (answer : Answer) (x : WorldClient) → option_map seen_caller o ≡ Some x → state_of x.at.stage ≡ told.Asking
-    → ClientAnswers o answer new → IsAnswered o answer new
-answered o new answer x is asks a = grind (arith, common_steps)
-
-pub answered_caller : (o new : Option RealCaller) (answer : Answer) (a : IsAnswered o answer new)
-    → option_map seen_caller new
-    ≡ Some (caller a.before.number (standing a.before.client.at.run a.before.client.at.counts (stage_after answer)) a.after.client.reader)
-answered_caller o new answer a = cc
+    → ClientAnswers o answer new
+    → (reader : ReplyHeld) × (x.at.stage ≡ Asking)
+    × (option_map seen_caller new ≡ Some (caller x.number (standing x.at.run x.at.counts (stage_after answer)) reader))
+answered None new answer x is asks a = absurd cc
+answered (Some c) new answer x is asks (d, result, there, same, at) = (d.client.reader, grind (arith, common_steps), grind (arith, common_steps))
 
 -- the payload is that of the same run
 pub sourced_same : (begun : List RealBegun) (o new : Option RealCaller) (c d : RealCaller) → o ≡ Some c → new ≡ Some d → IsSameRun c d → IsSourced begun o

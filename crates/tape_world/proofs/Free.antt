@@ -1,18 +1,10 @@
 -- Why no name of a new world's drives and reels is taken.
-use Rattle.tape_world.proofs.Standard.{common_steps, ◌≡◌, ℕ, zero, suc, ◌+◌, ◌<◌, ◌≤◌, Bool, true, false, not, ◌&&◌, MatchBool, List, [], ◌∷◌, ◌++◌, length, drop, map, get_or, Some, None, refl, sym, ap, subst, ◌∙◌, append_assoc, drop-cons, arith, flat_map, list_any, bytes_eq, append-nil, length-map, map-append, list_any-append, sum_by-append, sum_by-cons, bytes_eq-Decides}
-use Rattle.tape_world.proofs.Layers.{TroubledTape, ReelSlot, slot, Drive, drive_with, LibraryOf, library, drive_at, with_drive_at, slots_in, names_in, times, EachReelOnce, IsDriveNamed, ListLibrary, blank_reel, with_drive, IsDriveAdded, IsReelAdded, are_distinct, DriveFault, bit, named, times_named, sum_by_with_drive, any_count, names_from, AreGoodDrives, DriveSpec, plain_drive_spec, reels_of, blank_slots, laid_drive, laid_library, with_laid, with_slots}
-use Rattle.std.proofs.Common.{Result, Ok, Err}
+use Rattle.tape_world.proofs.Layers.{common_steps, ◌≡◌, ℕ, zero, suc, ◌+◌, ◌<◌, ◌≤◌, Bool, true, false, List, [], ◌∷◌, ◌++◌, length, drop, map, get_or, Some, None, refl, sym, ap, subst, ◌∙◌, append_assoc, drop-cons, arith, flat_map, list_any, bytes_eq, append-nil, length-map, map-append, list_any-append, sum_by-append, sum_by-cons, bytes_eq-Decides, TroubledTape, ReelSlot, slot, Drive, drive_with, LibraryOf, library, drive_at, with_drive_at, slots_in, names_in, times, EachReelOnce, IsDriveNamed, ListLibrary, blank_reel, with_drive, IsDriveAdded, IsReelAdded, are_distinct, DriveFault, bit, named}
+use Rattle.tape_world.proofs.Layers.{times_named, sum_by_with_drive, any_count, names_from, AreGoodDrives, DriveSpec, plain_drive_spec, reels_of, blank_slots, laid_drive, laid_library, with_laid, with_slots, Result, Ok, Err, get_or-map, map-map}
 use Rattle.std.proofs.Math.Numerals.{suc-eq-add-one}
-use Rattle.std.proofs.lemmas.List.{get_or-map}
-use Rattle.drives.specs.declared.fault.DriveFault.TheVariants.{NoSuchDrive, Busy, NoReel, Device, OutOfMemory, NameTaken}
+use Rattle.drives.specs.declared.fault.DriveFault.TheVariants.{OutOfMemory, NameTaken}
 use Rattle.tape_world.proofs.Apart.{all_reels, good_parts}
 use Rattle.tape_world.proofs.Made.{laid_after, laid_on, slot_names, stack_names}
-
-both : (a b : Bool) → (a && b) ≡ true → (a ≡ true) × (b ≡ true)
-both a b h = grind (arith, common_steps)
-
-turned : (b : Bool) → not b ≡ true → b ≡ false
-turned b h = grind (arith, common_steps)
 
 any_there : (xs ys : List (List ℕ)) (n : List ℕ) → list_any (bytes_eq n) (xs ++ n ∷ ys) ≡ true
 any_there xs ys n = grind (arith, common_steps, list_any-append, bytes_eq-Decides)
@@ -21,94 +13,66 @@ any_there xs ys n = grind (arith, common_steps, list_any-append, bytes_eq-Decide
 distinct_apart : (xs ys : List (List ℕ)) (n : List ℕ) (k : ℕ) → are_distinct (xs ++ n ∷ ys) ≡ true → k < length xs → get_or xs k [] ≡ n → ⊥
 distinct_apart [] ys n k distinct l is = absurd (omega (arith, l))
 distinct_apart (x ∷ xs) ys n zero distinct l is =
-    let first = both (not (list_any (bytes_eq x) (xs ++ n ∷ ys))) (are_distinct (xs ++ n ∷ ys)) distinct in
-    let there = subst (λ m. list_any (bytes_eq m) (xs ++ n ∷ ys) ≡ true) (sym is) (any_there xs ys n) in
-    let bad : true ≡ false = sym there ∙ turned (list_any (bytes_eq x) (xs ++ n ∷ ys)) first.0 in absurd cc
-distinct_apart (x ∷ xs) ys n (suc k) distinct l is =
-    let first = both (not (list_any (bytes_eq x) (xs ++ n ∷ ys))) (are_distinct (xs ++ n ∷ ys)) distinct in
-    distinct_apart xs ys n k first.1 (omega (arith, l)) is
-
-none_counted : (b : Bool) (n : ℕ) → MatchBool b (0 < n) (n ≡ 0) → b ≡ false → n ≡ 0
-none_counted b n h e = grind (arith, common_steps)
+    let there = subst (λ m. list_any (bytes_eq m) (xs ++ n ∷ ys) ≡ true) (sym is) (any_there xs ys n) in grind (arith, common_steps)
+distinct_apart (x ∷ xs) ys n (suc k) distinct l is = grind (arith, common_steps, distinct_apart xs ys n k)
 
 once_step : (name x : List ℕ) (xs : List (List ℕ)) (b : Bool) → bytes_eq name x ≡ b → list_any (bytes_eq x) xs ≡ false → times name xs ≤ 1
     → times name (x ∷ xs) ≤ 1
 once_step name x xs true e apart less =
-    let same : name ≡ x = (bytes_eq-Decides name x).0 e in
-    let none : times x xs ≡ 0 = none_counted (list_any (bytes_eq x) xs) (times x xs) (any_count (bytes_eq x) xs) apart in
-    let all = sum_by-cons (λ n. bit (bytes_eq name n)) x xs in
     let here : bit (bytes_eq name x) ≡ 1 = ap bit e in
-    let other : times name xs ≡ times x xs = ap (λ n. times n xs) same in
-    omega (arith, none, all, here, other)
-once_step name x xs false e apart less = grind (arith, common_steps, bytes_eq-Decides, none_counted, any_count, sum_by-cons, bit)
+    let other : times name xs ≡ times x xs = ap (λ n. times n xs) ((bytes_eq-Decides name x).0 e) in
+    grind (arith, any_count (bytes_eq x) xs, sum_by-cons (λ n. bit (bytes_eq name n)) x xs)
+once_step name x xs false e apart less = grind (arith, common_steps, sum_by-cons, bit)
 
 -- names that differ stand once
 distinct_once : (names : List (List ℕ)) → are_distinct names ≡ true → (name : List ℕ) → times name names ≤ 1
 distinct_once [] distinct name = omega arith
 distinct_once (x ∷ xs) distinct name =
-    let first = both (not (list_any (bytes_eq x) xs)) (are_distinct xs) distinct in
-    once_step name x xs (bytes_eq name x) refl (turned (list_any (bytes_eq x) xs) first.0) (distinct_once xs first.1 name)
+    let rest = λ (apart : are_distinct xs ≡ true). distinct_once xs apart name in
+    grind (arith, common_steps, once_step name x xs (bytes_eq name x) refl)
 
 -- no name stands twice among the reels of good drives
-pub good_once : (drives : List DriveSpec) → AreGoodDrives (map plain_drive_spec drives) → EachReelOnce (laid_library drives)
+good_once : (drives : List DriveSpec) → AreGoodDrives (map plain_drive_spec drives) → EachReelOnce (laid_library drives)
 good_once drives good name =
     let is : names_in (laid_library drives) ≡ all_reels drives = ap (map (λ x. x.name)) (append-nil (flat_map (λ r. r.stack) (map laid_drive drives)))
     ∙ stack_names laid_drive reels_of (λ d. slot_names (Some (blank_reel d.capacity)) (reels_of d)) drives in
     subst (λ ns. times name ns ≤ 1) (sym is) (distinct_once (all_reels drives) (good_parts drives good).3 name)
 
-pub good_names : (drives : List DriveSpec) → AreGoodDrives (map plain_drive_spec drives) → are_distinct (map (λ d. d.name.now) drives) ≡ true
-good_names drives good = (good_parts drives good).2
-
-names_laid : (drives : List DriveSpec) → map (λ r. r.name) (map laid_drive drives) ≡ map (λ d. d.name.now) drives
-names_laid [] = refl
-names_laid (d ∷ drives) = ap (λ ns. d.name.now ∷ ns) (names_laid drives)
-
 -- ---- reels
-
-own_name : {X : Type 0} (x : ReelSlot X) → named x.name x ≡ 1
-own_name x = ap bit ((bytes_eq-Decides x.name x.name).1 refl)
 
 name_free : (s : LibraryOf TroubledTape) (d : ℕ) (x : ReelSlot TroubledTape) (rest : List (ReelSlot TroubledTape)) → d < length s.drives
     → EachReelOnce (with_slots s d (x ∷ rest))
     → 0 < times x.name (names_in s) → ⊥
 name_free s d x rest l once taken =
     let r = drive_with (drive_at s d).name ((drive_at s d).stack ++ x ∷ rest) in
-    let a = sum_by_with_drive (named x.name) s d r l in
-    let b = sum_by-append (named x.name) (drive_at s d).stack (x ∷ rest) in
-    let c = sum_by-cons (named x.name) x rest in
-    let e = times_named x.name (slots_in s) in
-    let g = times_named x.name (slots_in (with_drive_at s d r)) in
-    let o = once x.name in
-    let i = own_name x in
-    absurd (omega (arith, a, b, c, e, g, o, i, taken))
+    let all = sum_by_with_drive (named x.name) s d r l in
+    let stack = sum_by-append (named x.name) (drive_at s d).stack (x ∷ rest) in
+    let own : named x.name x ≡ 1 = ap bit ((bytes_eq-Decides x.name x.name).1 refl) in
+    absurd (omega (
+      arith,
+      all,
+      stack,
+      sum_by-cons (named x.name) x rest,
+      times_named x.name (slots_in s),
+      times_named x.name (slots_in (with_drive_at s d r)),
+      once x.name,
+      own,
+      taken,
+    ))
 
 -- a reel is refused for want of memory alone
-reel_fault : (U : Type 0) (old new : ListLibrary) (d : ℕ) (name : List ℕ) (capacity : ℕ) (rest : List (ReelSlot TroubledTape)) (fault : DriveFault)
-    → IsReelAdded {U = U} old d name capacity (Err fault) new → d < length old.library.drives
-    → EachReelOnce (with_slots old.library d (slot name (Some (blank_reel capacity)) ∷ rest)) → fault ≡ OutOfMemory
-reel_fault U old new d name capacity rest NameTaken h l once = absurd (name_free old.library d (slot name (Some (blank_reel capacity))) rest l once h.0)
-reel_fault U old new d name capacity rest OutOfMemory h l once = refl
-reel_fault U old new d name capacity rest NoSuchDrive h l once = absurd h
-reel_fault U old new d name capacity rest (Busy n) h l once = absurd h
-reel_fault U old new d name capacity rest NoReel h l once = absurd h
-reel_fault U old new d name capacity rest Device h l once = absurd h
-
-next_once : {A : Type 0} (f : A → List ℕ) (first now : LibraryOf TroubledTape) (d capacity : ℕ) (names : List A) (i : ℕ) (x : A) → i < length names
-    → with_slots now d (blank_slots capacity (map f (drop i names))) ≡ with_slots first d (blank_slots capacity (map f names))
-    → EachReelOnce (with_slots first d (blank_slots capacity (map f names)))
-    → EachReelOnce (with_slots now d (slot (f (get_or names i x)) (Some (blank_reel capacity)) ∷ blank_slots capacity (map f (drop (i + 1) names))))
-next_once f first now d capacity names i x m same once =
-    subst (λ ns. EachReelOnce (with_slots now d (blank_slots capacity ns))) (names_from f names i x m)
-    (subst (λ (s : LibraryOf TroubledTape). EachReelOnce s) (sym same) once)
-
 pub next_fault : {A U : Type 0} (f : A → List ℕ) (first : LibraryOf TroubledTape) (now new : ListLibrary) (d capacity : ℕ) (names : List A) (i : ℕ) (x : A)
     (fault : DriveFault) (r : Result U DriveFault)
     → r ≡ Err fault → IsReelAdded now d (f (get_or names i x)) capacity r new → d < length now.library.drives → i < length names
     → with_slots now.library d (blank_slots capacity (map f (drop i names))) ≡ with_slots first d (blank_slots capacity (map f names))
     → EachReelOnce (with_slots first d (blank_slots capacity (map f names))) → fault ≡ OutOfMemory
-next_fault {U = U} f first now new d capacity names i x fault r is h l m same once =
-    reel_fault U now new d (f (get_or names i x)) capacity (blank_slots capacity (map f (drop (i + 1) names))) fault
-    (subst (λ q. IsReelAdded now d (f (get_or names i x)) capacity q new) is h) l (next_once f first now.library d capacity names i x m same once)
+next_fault f first now new d capacity names i x NameTaken r is h l m same once =
+    absurd (name_free now.library d (slot (f (get_or names i x)) (Some (blank_reel capacity))) (blank_slots capacity (map f (drop (i + 1) names))) l
+    (subst (λ ns. EachReelOnce (with_slots now.library d (blank_slots capacity ns))) (names_from f names i x m)
+    (subst (λ (s : LibraryOf TroubledTape). EachReelOnce s) (sym same) once))
+    ((subst (λ q. IsReelAdded now d (f (get_or names i x)) capacity q new) is h).0))
+next_fault f first now new d capacity names i x OutOfMemory r is h l m same once = refl
+next_fault f first now new d capacity names i x _ r is h l m same once = absurd (subst (λ q. IsReelAdded now d (f (get_or names i x)) capacity q new) is h)
 
 -- ---- drives
 
@@ -135,20 +99,22 @@ module _ (now : LibraryOf TroubledTape) (drives : List DriveSpec) (i : ℕ) (x :
   all_of : library (now.drives ++ laid_drive x ∷ rest) now.bin ≡ laid_library drives
   all_of = ap (laid_after now) (sym next) ∙ same
 
-  pub drive_once : EachReelOnce (laid_library drives) → EachReelOnce (with_laid now x)
-  drive_once once name =
+  pub drive_once : AreGoodDrives (map plain_drive_spec drives) → EachReelOnce (with_laid now x)
+  drive_once good name =
       let is = ap (λ all_drives. library all_drives now.bin) (append_assoc now.drives (laid_drive x ∷ []) rest) ∙ all_of in
-      let less = fewer name (now.drives ++ laid_drive x ∷ []) rest now.bin in
-      let o = once name in
-      let e = ap (λ (s : LibraryOf TroubledTape). times name (names_in s)) is in
-      omega (arith, less, o, e)
+      omega (
+        arith,
+        fewer name (now.drives ++ laid_drive x ∷ []) rest now.bin,
+        good_once drives good name,
+        ap (λ (s : LibraryOf TroubledTape). times name (names_in s)) is,
+      )
 
   names_are : map (λ r. r.name) now.drives ++ x.name.now ∷ map (λ r. r.name) rest ≡ map (λ d. d.name.now) drives
   names_are =
       sym (map-append (λ r. r.name) now.drives (laid_drive x ∷ rest)) ∙ ap (λ (s : LibraryOf TroubledTape). map (λ r. r.name) s.drives) all_of
-      ∙ names_laid drives
+      ∙ map-map (λ (r : Drive TroubledTape). r.name) laid_drive drives
 
-  pub drive_free : are_distinct (map (λ d. d.name.now) drives) ≡ true → IsDriveNamed x.name.now now None
-  drive_free distinct k l is =
-      distinct_apart (map (λ r. r.name) now.drives) (map (λ r. r.name) rest) x.name.now k (ap are_distinct names_are ∙ distinct)
+  pub drive_free : AreGoodDrives (map plain_drive_spec drives) → IsDriveNamed x.name.now now None
+  drive_free good k l is =
+      distinct_apart (map (λ r. r.name) now.drives) (map (λ r. r.name) rest) x.name.now k (ap are_distinct names_are ∙ (good_parts drives good).2)
       (omega (arith, l, length-map now.drives (λ r. r.name))) (get_or-map (λ r. r.name) now.drives k (drive_with [] []) [] l ∙ is)

@@ -1,33 +1,23 @@
 -- What a client that heard something leaves of a world.
-use Rattle.tape_world.proofs.Standard.{common_steps, arith, ◌≡◌, Bool, List, ◌++◌, map, option_map, Option, Some, None, refl, sym, subst, ◌∙◌, ℕ, IsTrue, same_Some}
-use Rattle.tape_world.proofs.Layers.{Standing, VolumeCount, Progress, AttemptFault, World, AttemptState, WorldClient, Count, with_no_failure, changed, reel_opened_by, counts_of, after_client_call, Hears, caller, RealCaller, HistoryHeld, IsSameHistory, seen_caller, name_at, deliver_back, is_in_attempt, IsClients, IsOwned, failure_of, heard_on, own_after, is_over, IsAttempting, HasHeard, history_count}
-use Rattle.std.specs.Prelude.{option_to_list}
+use Rattle.tape_world.proofs.Layers.{common_steps, arith, ◌≡◌, Bool, List, ◌++◌, map, option_map, Option, Some, ℕ, VolumeCount, AttemptFault, World, AttemptState, WorldClient, Count, changed, reel_opened_by, counts_of, Hears, caller, RealCaller, HistoryHeld, IsSameHistory, seen_caller, name_at, IsClients, IsOwned, heard_on, own_after, IsAttempting, HasHeard, history_count, option_to_list}
 use Rattle.tape_world.specs.declared.world_state.hearing.PieceHeard.{PieceHeard}
 use Rattle.tape_world.proofs.Numbered.{left_after}
 
 -- the client whose connection it is is in an attempt
 pub attempts : (w : World) (o : Option RealCaller) (k : ℕ) → w.caller ≡ option_map seen_caller o → IsOwned w → IsClients w k → IsAttempting o
-attempts w None k was s clients = (let at = (s.own k (s.only k clients)).1 in let clash = sym was ∙ at.1 in absurd cc)
-attempts w (Some c) k was s clients =
-    let at = (s.own k (s.only k clients)).1 in
-    (c, refl, subst (λ (x : WorldClient). IsTrue (is_in_attempt x.at.stage)) (same_Some at.0 (seen_caller c) (sym at.1 ∙ was)) at.2)
+attempts w o k was s clients = grind (arith, s.own k (s.only k clients))
 
 -- the world after the client heard so many bytes
 abbrev pub heard_world : World → ℕ → ℕ → Bool → Option WorldClient → List Count → Option (ℕ × AttemptFault) → World
 heard_world w k n over caller counts failure =
     record w { connections = changed (heard_on over n) w.connections k; own = own_after over w.own; caller = caller; counts = counts; failure = failure }
 
-come_is : (w : World) (k n : ℕ) (x : WorldClient) (counts : List Count) (at : Standing) (progress : Progress)
-    → heard_world w k n (is_over progress) (Some x) counts (failure_of at progress)
-    ≡ after_client_call (record (with_no_failure w) { connections = changed (deliver_back n) w.connections k; caller = Some x; counts = counts }) k at progress
-come_is w k n x counts at progress = grind (arith, common_steps, left_after)
-
 pub heard_step : (w u : World) (k n : ℕ) (dump : Option AttemptState) (d : AttemptState) (piece : List ℕ) (o new : Option RealCaller) (h : PieceHeard)
     → dump ≡ Some d
     → w.caller ≡ option_map seen_caller o → HasHeard o piece h new
     → u ≡ heard_world w k n h.is_over (option_map seen_caller new) (w.counts ++ map (counts_of w h.run k) (option_to_list h.count)) h.failure
     → Hears dump w k n piece u
-heard_step w u k n dump d piece o new h some was e is = grind (arith, common_steps, come_is)
+heard_step w u k n dump d piece o new h some was e is = grind (arith, common_steps, left_after)
 
 -- the history, after what the client counted was kept there
 pub counts_kept : (b after new : HistoryHeld) (run reel k : ℕ) (o : Option VolumeCount) → IsSameHistory b after

@@ -1,14 +1,9 @@
 -- What leaves the names of all reels among those in memory.
-use Rattle.tape_world.proofs.Layers.{TapeLibrary, World, IsLibraryKnown}
-use Rattle.std.proofs.Common.{◌≡◌, ℕ, ◌<◌, List, sym, subst}
-use Rattle.world_model.specs.Naming.{SameNames}
-
-pub known_same : (names : List (List ℕ)) (s new : TapeLibrary) → new ≡ s → IsLibraryKnown names s → IsLibraryKnown names new
-known_same names s new is known = subst (λ (v : TapeLibrary). IsLibraryKnown names v) (sym is) known
+use Rattle.tape_world.proofs.Layers.{TapeLibrary, World, IsLibraryKnown, ◌≡◌, ℕ, ◌<◌, List, sym, subst, SameNames}
 
 -- no event brings a reel
 pub known_after : (names : List (List ℕ)) (w u : World) (new : TapeLibrary) → SameNames w.server.library u.server.library → new ≡ u.server.library
     → IsLibraryKnown names w.server.library
     → IsLibraryKnown names new
 known_after names w u new same is known =
-    known_same names u.server.library new is record { each = λ name has. known.each name (subst (λ n. 0 < n) (same name) has) }
+    subst (λ (v : TapeLibrary). IsLibraryKnown names v) (sym is) record { each = λ name has. known.each name (subst (λ n. 0 < n) (same name) has) }

@@ -1,42 +1,34 @@
--- The definitions and lemmas that the proofs of this crate share: those of the crates below, and the definitions of this crate.
-pub use Rattle.drives.proofs.Arranging.{any_lent, names_from}
-pub use Rattle.drives.proofs.Shops.{any_count, bit, named, sum_by_with_drive, times_named}
-pub use Rattle.drives.specs.Arranging.{are_distinct, reel_named}
+-- The words, definitions and lemmas that the proofs of this crate share: those of std and of the crates below, and the definitions of this crate.
+pub use Rattle.drives.proofs.Arranging.{any_lent, names_from, repeated_is}
+pub use Rattle.drives.proofs.Shops.{any_count}
+pub use Rattle.drives.specs.Arranging.{reel_named}
 pub use Rattle.drives.specs.ListLibrary.{IsDriveAdded, IsLibrary, IsReelAdded, ListLibrary, StacksCanFail, blank_reel, library_of, rest_drive, rest_slot, with_drive, with_reel}
-pub use Rattle.drives.specs.TapeLibrary.{Drive, EachReelOnce, IsDriveNamed, KeptReel, LibraryOf, ReelSlot, TapeLibrary, drive_at, drive_with, kept_reel, library, names_in, slot, slots_in, times, with_drive_at}
+pub use Rattle.drives.specs.TapeLibrary.{LibraryOf}
 pub use Rattle.drives.specs.declared.fault.DriveFault.{DriveFault}
-pub use Rattle.dump_client.specs.Client.{ClientHeld, HasFed, HasFedAt, IsPayload, IsShapedAs, NextRequestAt, ReadAt, ReadBy, TellsEntry}
-pub use Rattle.dump_client.specs.Standing.{CutAt, FedAt, Standing, StartedAt, checkpoint_of, stage_after, standing, state_of}
-pub use Rattle.dump_client.specs.declared.fault.AttemptFault.{AttemptFault}
+pub use Rattle.dump_client.specs.Client.{ClientHeld, HasFed, IsPayload, IsShapedAs, NextRequestAt, ReadAt, ReadBy, TellsEntry}
+pub use Rattle.dump_client.specs.Standing.{StartedAt, state_of}
 pub use Rattle.dump_client.specs.declared.fault.AttemptFault.TheVariants.{SourceFault}
-pub use Rattle.dump_client.specs.declared.stage.Answer.{Answer}
-pub use Rattle.dump_client.specs.declared.stage.Progress.{Progress}
-pub use Rattle.dump_client.specs.declared.stage.Stage.{Stage}
-pub use Rattle.dump_client.specs.declared.stage.Stage.TheVariants.{Asking, Finished, Ready, ToSend, Waiting}
-pub use Rattle.dump_client.specs.declared.step.Step.{Step}
-pub use Rattle.dump_client.specs.declared.step.Step.TheVariants.{Block, Close, Label, Look, Open, Operation}
-pub use Rattle.dump_run.specs.Blocks.{AreBlocksOf, ListedBlocks, ListedRead, cut_blocks, listed}
-pub use Rattle.dump_run.specs.Checkpoint.{SpellsCheckpoint, checkpoint_text}
-pub use Rattle.dump_run.specs.Run.{IsRun, PlainRun}
-pub use Rattle.dump_run.specs.declared.count.VolumeCount.{VolumeCount}
+pub use Rattle.dump_run.specs.Blocks.{AreBlocksOf, ListedBlocks, ListedRead, listed}
+pub use Rattle.dump_run.specs.Checkpoint.{SpellsCheckpoint}
 pub use Rattle.dumpdates.specs.Stored.{plain_entry}
-pub use Rattle.rmt_server.specs.ServerState.{ServerConnection, ServerState, server, side}
-pub use Rattle.rmt_server.specs.Session.{PlainSession, SessionView, session_view}
-pub use Rattle.rmt_server.specs.TroubledServe.{TroubledServeStep, drive_in}
-pub use Rattle.rmt_wire.specs.Reply.{PlainReply}
-pub use Rattle.rmt_wire.specs.Request.{HasSpelling, IsTextOf, PlainRequest, SpellsRequest, request_text}
-pub use Rattle.rmt_wire.specs.RequestReader.{RequestHeld, Unread}
-pub use Rattle.rmt_wire.specs.declared.limits.TheConstants.{READER_LIMIT}
-pub use Rattle.tape.specs.Tape.{PlainEntry, Tape, entries_of}
+pub use Rattle.std.proofs.Common.{Global, OnOk, Vec, add-one, drop-cons, drop-drop, is_err, min, option_copied, rules, unwrap_or}
+pub use Rattle.std.proofs.lemmas.Grind.{common_steps}
+pub use Rattle.std.proofs.lemmas.List.{get_or-map, set_at, take_more}
+pub use Rattle.std.proofs.lemmas.List.Concat.{flat_map-cons}
+pub use Rattle.std.proofs.lemmas.List.Folds.{Any-from_list_any, flat_map-map, list_any-append}
+pub use Rattle.std.proofs.lemmas.Option.{slice_get-map, slice_get_past}
+pub use Rattle.std.proofs.lemmas.Result.{IfOk-weaker, on_err_weaker, on_ok_weaker}
+pub use Rattle.std.proofs.lemmas.Simd.{map-map}
+pub use Rattle.std.specs.List.{position_or_len}
+pub use Rattle.std.specs.Option.{option_or}
 pub use Rattle.tape.specs.Trouble.{TroubledTape}
-pub use Rattle.tape.specs.declared.trouble.Trouble.{Trouble}
-pub use Rattle.tape_host.specs.Servers.{HasRoom, Hosted, IsPiecePushed, hosted, side_at, with_side_at}
-pub use Rattle.tape_host.specs.Turns.{Carries, GivesFault, GivesNothing, ServesAt, TurnsAt, TurnsSide, asked_of, carried_of, with_back}
+pub use Rattle.tape_host.specs.Servers.{HasRoom, Hosted, IsPiecePushed, hosted, side_at}
+pub use Rattle.tape_host.specs.Turns.{Carries, GivesFault, GivesNothing, ServesAt, TurnsSide, asked_of, carried_of, with_back}
 pub use Rattle.tape_host.specs.declared.turn.Turn.{Turn}
-pub use Rattle.tape_world.specs.Calling.{ClientAnswers, ClientSeesEnd as SeesItsEnd, IsBegunWith, IsReady, IsSameRun, Starts, failure_of, over_own}
+pub use Rattle.tape_world.specs.Calling.{ClientAnswers, ClientSeesEnd as SeesItsEnd, IsBegunWith, IsReady, IsSameRun, Starts}
 pub use Rattle.tape_world.specs.Entries.{AreOpenThere, entries_on, first_tape_online, named_tape_in, tape_online}
 pub use Rattle.tape_world.specs.Hearing.{HasHeard, IsAttempting, heard_on, history_count, is_over, own_after}
-pub use Rattle.tape_world.specs.Holding.{IsBacked, IsClients, IsEvent, IsOwned, IsSourced, is_in_attempt}
+pub use Rattle.tape_world.specs.Holding.{IsBacked, IsEvent, IsSourced}
 pub use Rattle.tape_world.specs.Making.{blank_slots, laid_drive, laid_library, names_again, plain_drive_spec, reel_again, reels_of, with_laid, with_slots}
 pub use Rattle.tape_world.specs.Running.{IsEventRefused, IsStopped, LeavesInOrder, fault_at, fault_place, plain_event}
 pub use Rattle.tape_world.specs.Saving.{IsEnteredIn, IsKeptOf, ResumesRunWith, kept_then}
@@ -50,15 +42,14 @@ pub use Rattle.tape_world.specs.declared.caller.WorldClient.{WorldClient as Real
 pub use Rattle.tape_world.specs.declared.drive_spec.DriveSpec.{DriveSpec}
 pub use Rattle.tape_world.specs.declared.history.Entered.{Entered as RealEntered}
 pub use Rattle.tape_world.specs.declared.stop.EventStop.{EventStop}
-pub use Rattle.world_connections.proofs.Linked.{numbered_at, put_connection, put_same}
-pub use Rattle.world_connections.specs.Connection.{deliver_back, noted_turn, plain_connection}
-pub use Rattle.world_model.specs.Changes.{after_client_call, all_ended, answered, changed, changed_from, connection_of, counts_of, ended, ended_at, ended_from, first_name, given_up, list_in, opened_reel, opening, reel_opened_by, reel_written, restarted, side_of, with_no_failure, without_peer, without_server, writing}
-pub use Rattle.world_model.specs.Events.{PlainEvent}
-pub use Rattle.world_model.specs.Events.PlainEvent.{Arrange, EndAtServer, Send, Serve, ServerRestart, ToClient, ToServer}
-pub use Rattle.world_model.specs.First.{AreGoodDrives, IsReached, IsReadable, PlainDriveSpec, blank_drive, first_world}
-pub use Rattle.world_model.specs.Headline.{CountedReels}
-pub use Rattle.world_model.specs.Kept.{AreLaid, IsWorldKept}
-pub use Rattle.world_model.specs.Rows.{HasRoomFor, Possible, StandsIn}
-pub use Rattle.world_model.specs.Standing.{AreHeld, HasInDrive, IsFirstAway, ReelHolds, ReelLiesIn, ReelLiesOn, online_drive_in}
-pub use Rattle.world_model.specs.Steps.{Happens, Hears, ResumesRun, Runs, SeesEnd, Sends, begun, caller, entry_of, forgotten_from, fresh, is_failing, kept_after, none, one_more}
-pub use Rattle.world_model.specs.World.{AttemptState, Begun, Connection, Count, Opening, World, WorldClient, Writing, numbered, with_numbered}
+pub use Rattle.world_connections.proofs.Linked.{put_connection, put_same}
+pub use Rattle.world_connections.specs.Connection.{noted_turn, plain_connection}
+pub use Rattle.world_model.proofs.Basics.{Bool, Contains, Contains-append_left, Contains-push, Err, IsTrue, List, None, Ok, Option, Result, Some, [], ap, append-nil, append_assoc, arith, bytes_eq, bytes_eq-Decides, cond, decimal, drop, false, flat_map, get_or, get_or-set_same, get_or_from_slice_get, inl, inr, length, length-append, length-decimal-le, length-drop, length-map, length-set, list_any, map, map-append, nat_tests, not, option_and_then, option_map, option_to_list, refl, replicate, same_Some, set-get_or, set-set, slice_get, slice_get-get_or, slice_get_within, slice_index_or, slice_set}
+pub use Rattle.world_model.proofs.Basics.{subst, suc, sum_by, sum_by-append, sum_by-cons, sym, take, take-append-drop, take_all, true, zero, ℕ, ◌&&◌, ◌++◌, ◌+◌, ◌-◌, ◌<◌, ◌==◌, ◌||◌, ◌↔◌, ◌∙◌, ◌∷◌, ◌≡◌, ◌≢◌, ◌≤◌, ◌⊎◌}
+pub use Rattle.world_model.proofs.Ground.{among_at, drop_front, numbered_last, pushed_is}
+pub use Rattle.world_model.proofs.Terms.{Answer, AreFaultless, AreGoodDrives, AreHeld, AreLaid, Arrange, Asking, AttemptFault, AttemptState, Connection, Count, CountedReels, Drive, EachReelOnce, EndAtServer, Entered, FedAt, Finished, Happens, HasFedAt, HasInDrive, HasSpelling, Hears, IsClients, IsDriveNamed, IsFirstAway, IsOwned, IsReadable, IsTextOf, IsWorldKept, KeptReel, NoTwoHolders, Open, Opening, OwnOpens, PlainDriveSpec, PlainEntry, PlainEvent, PlainReply, PlainRequest, PlainRun, PlainSession, Possible, Progress, READER_LIMIT, ReelHolds, ReelLiesIn, ReelLiesOn, ReelSlot, ReelsNotReopened}
+pub use Rattle.world_model.proofs.Terms.{ReplyHeld, RequestHeld, ResumesRun, Runs, SameNames, SeesEnd, Send, Sends, SentRequests, Serve, ServerConnection, ServerRestart, ServerState, SessionView, Stage, Standing, Step, Tape, TapeLibrary, ToClient, ToSend, ToServer, Trouble, TroubledServeStep, Unread, VolumeCount, VolumesInOrder, Waiting, WireFault, World, WorldClient, all_ended, answered, are_distinct, bit, blank_drive, caller, carried, changed, checkpoint_of, connection_of, counts_of, cut_blocks, drive_at, drive_in, drive_with, ended, ended_at, ended_from, entered, entries_of, first_name}
+pub use Rattle.world_model.proofs.Terms.{first_world, forgotten_from, fresh, heard_as, is_failing, is_in_attempt, kept_after, kept_reel, library, list_in, named, names_in, none, numbered, one_more, online_drive_in, opened_reel, opening, reel_opened_by, reel_written, reply_held, request_of, request_text, restarted, server, session_view, side, side_of, slot, slots_in, stage_after, standing, sum_by_with_drive, times, times_named, with_drive_at, with_no_failure, with_numbered, without_peer, without_server, writing}
+pub use Rattle.world_model.specs.First.{IsReached}
+pub use Rattle.world_model.specs.Rows.{HasRoomFor, StandsIn}
+pub use Rattle.world_model.specs.Steps.{entry_of}

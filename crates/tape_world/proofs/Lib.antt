@@ -1,4 +1,3 @@
-pub mod Standard
 pub mod Layers
 pub mod Server
 pub mod Numbered

@@ -1,7 +1,6 @@
 -- How a new world's stacks are laid.
-use Rattle.tape_world.proofs.Standard.{common_steps, Bool, true, false, MatchBool, Option, refl, subst, ◌≡◌, ℕ, ◌+◌, ◌<◌, List, [], ◌∷◌, ◌++◌, length, drop, map, get_or, slice_set, replicate, Some, OnOk, sym, ap, ◌∙◌, append_assoc, arith, is_err, Contains, Any-from_list_any, flat_map-map, list_any, flat_map, flat_map-cons, bytes_eq-Decides, length-set, get_or-set_same, set-set, append-nil, length-map, map-append, on_ok_weaker, bytes_eq}
-use Rattle.tape_world.proofs.Layers.{DriveFault, TroubledTape, KeptReel, kept_reel, ReelSlot, slot, Drive, drive_with, LibraryOf, TapeLibrary, library, drive_at, times, names_in, ListLibrary, library_of, blank_reel, rest_slot, rest_drive, with_drive, with_reel, IsDriveAdded, IsReelAdded, names_from, any_count, server, Hosted, hosted, PlainDriveSpec, blank_drive, first_world, DriveSpec, IsLibraryKnown, plain_drive_spec, reels_of, blank_slots, laid_drive, laid_library, with_laid, with_slots}
-use Rattle.std.proofs.Common.{Contains, Result, Ok}
+use Rattle.tape_world.proofs.Layers.{common_steps, true, false, Option, refl, subst, ◌≡◌, ℕ, ◌+◌, ◌<◌, List, [], ◌∷◌, ◌++◌, length, drop, map, get_or, replicate, Some, OnOk, sym, ap, ◌∙◌, append_assoc, arith, is_err, Contains, Any-from_list_any, flat_map-map, list_any, flat_map, flat_map-cons, bytes_eq-Decides, length-set, get_or-set_same, set-set, append-nil, length-map, map-append, on_ok_weaker, bytes_eq, DriveFault, TroubledTape, KeptReel, kept_reel, ReelSlot, slot, Drive, drive_with, LibraryOf, TapeLibrary, library, drive_at, times, names_in, ListLibrary, library_of, blank_reel, rest_slot}
+use Rattle.tape_world.proofs.Layers.{rest_drive, with_drive, with_reel, IsDriveAdded, IsReelAdded, names_from, any_count, server, Hosted, hosted, PlainDriveSpec, blank_drive, first_world, DriveSpec, IsLibraryKnown, plain_drive_spec, reels_of, blank_slots, laid_drive, laid_library, with_laid, with_slots, Result, Ok, map-map, set_at}
 use Rattle.tape_host.specs.Lying.{AreInSlots, AreStacksInSlots, AreAllInSlots}
 
 one_slot : (s : LibraryOf TroubledTape) (d : ℕ) (name : List ℕ) (capacity : ℕ) (slots : List (ReelSlot TroubledTape)) → d < length s.drives
@@ -13,21 +12,12 @@ reel_added : {U : Type 0} (old new : ListLibrary) (d : ℕ) (name : List ℕ) (c
     → new.library ≡ with_reel old.library d name capacity
 reel_added old new d name capacity r h e = grind (arith, common_steps)
 
-drives_with : (s : LibraryOf TroubledTape) (d : ℕ) (name : List ℕ) (capacity : ℕ) → length (with_reel s d name capacity).drives ≡ length s.drives
-drives_with s d name capacity = length-set s.drives d (drive_with (drive_at s d).name ((drive_at s d).stack ++ slot name (Some (blank_reel capacity)) ∷ []))
-
 pub same_drives : {U : Type 0} (old new : ListLibrary) (d : ℕ) (name : List ℕ) (capacity : ℕ) (r : Result U DriveFault)
     → IsReelAdded old d name capacity r new → is_err r ≡ false
     → length new.library.drives ≡ length old.library.drives
 same_drives old new d name capacity r h e =
-    ap (λ (s : LibraryOf TroubledTape). length s.drives) (reel_added old new d name capacity r h e) ∙ drives_with old.library d name capacity
-
-more_reels : {A : Type 0} (f : A → List ℕ) (first now new : LibraryOf TroubledTape) (d capacity : ℕ) (names : List A) (i : ℕ) (x : A) → d < length now.drives
-    → i < length names
-    → new ≡ with_reel now d (f (get_or names i x)) capacity
-    → with_slots now d (blank_slots capacity (map f (drop i names))) ≡ with_slots first d (blank_slots capacity (map f names))
-    → with_slots new d (blank_slots capacity (map f (drop (i + 1) names))) ≡ with_slots first d (blank_slots capacity (map f names))
-more_reels f first now new d capacity names i x l m made same = grind (arith, common_steps, one_slot, names_from)
+    ap (λ (s : LibraryOf TroubledTape). length s.drives) (reel_added old new d name capacity r h e)
+    ∙ length-set old.library.drives d (drive_with (drive_at old.library d).name ((drive_at old.library d).stack ++ slot name (Some (blank_reel capacity)) ∷ []))
 
 -- the reels that are to be added yet
 pub next_reel : {A U : Type 0} (f : A → List ℕ) (first : LibraryOf TroubledTape) (now new : ListLibrary) (d capacity : ℕ) (names : List A) (i : ℕ) (x : A)
@@ -35,16 +25,16 @@ pub next_reel : {A U : Type 0} (f : A → List ℕ) (first : LibraryOf TroubledT
     → d < length now.library.drives → i < length names → IsReelAdded now d (f (get_or names i x)) capacity r new → is_err r ≡ false
     → with_slots now.library d (blank_slots capacity (map f (drop i names))) ≡ with_slots first d (blank_slots capacity (map f names))
     → with_slots new.library d (blank_slots capacity (map f (drop (i + 1) names))) ≡ with_slots first d (blank_slots capacity (map f names))
-next_reel f first now new d capacity names i x r l m h e same = grind (arith, common_steps, more_reels, reel_added)
-
-put_last : {X : Type 0} (all_drives : List (Drive X)) (r new : Drive X) → slice_set (all_drives ++ r ∷ []) (length all_drives) new ≡ all_drives ++ new ∷ []
-put_last [] r new = refl
-put_last (x ∷ all_drives) r new = ap (λ xs. x ∷ xs) (put_last all_drives r new)
+next_reel f first now new d capacity names i x r l m h e same =
+    let added = reel_added now new d (f (get_or names i x)) capacity r h e in
+    let one = one_slot now.library d (f (get_or names i x)) capacity (blank_slots capacity (map f (drop (i + 1) names))) l in
+    ap (λ s. with_slots s d (blank_slots capacity (map f (drop (i + 1) names)))) added ∙ one
+    ∙ ap (λ ns. with_slots now.library d (blank_slots capacity ns)) (sym (names_from f names i x m)) ∙ same
 
 -- a drive that was added, with its reels
 pub laid_on : (s : LibraryOf TroubledTape) (d : DriveSpec)
     → with_slots (with_drive s d.name.now) (length s.drives) (blank_slots d.capacity (reels_of d)) ≡ with_laid s d
-laid_on s d = grind (arith, common_steps, put_last)
+laid_on s d = grind (arith, common_steps, set_at)
 
 -- the drives that are to be added yet
 abbrev pub laid_after : LibraryOf TroubledTape → List DriveSpec → LibraryOf TroubledTape
@@ -58,14 +48,11 @@ drive_laid old made new d number r added laid = grind (arith, common_steps, on_o
 
 -- ---- what is told of them
 
-kept_slots : (capacity : ℕ) (names : List (List ℕ)) → map rest_slot (blank_slots capacity names) ≡ map (λ name. slot name (Some (kept_reel [] capacity))) names
-kept_slots capacity [] = refl
-kept_slots capacity (name ∷ names) = ap (λ slots. slot name (Some (kept_reel [] capacity)) ∷ slots) (kept_slots capacity names)
-
 kept_drives : (drives : List DriveSpec) → map rest_drive (map laid_drive drives) ≡ map blank_drive (map plain_drive_spec drives)
 kept_drives [] = refl
 kept_drives (d ∷ drives) =
-    ap (λ slots. drive_with d.name.now slots ∷ map rest_drive (map laid_drive drives)) (kept_slots d.capacity (reels_of d))
+    ap (λ slots. drive_with d.name.now slots ∷ map rest_drive (map laid_drive drives))
+    (map-map rest_slot (λ n. slot n (Some (blank_reel d.capacity))) (reels_of d))
     ∙ ap (λ all_drives. blank_drive (plain_drive_spec d) ∷ all_drives) (kept_drives drives)
 
 first_library : (s : ListLibrary) (drives : List DriveSpec) → s.library ≡ laid_library drives
@@ -90,13 +77,10 @@ first_server host s drives n laid is count = grind (arith, common_steps, replica
 
 -- a name that occurs is among the names
 times_has : (name : List ℕ) (names : List (List ℕ)) → 0 < times name names → Contains names name
-times_has name names some = from_test (list_any (bytes_eq name) names) refl (any_count (bytes_eq name) names)
-  where
-    from_test : (b : Bool) → list_any (bytes_eq name) names ≡ b → MatchBool b (0 < times name names) (times name names ≡ 0) → Contains names name
-    from_test true is counted =
-        let (k, x, within, at, equal) = Any-from_list_any (bytes_eq name) names is in
-        subst (Contains names) (sym ((bytes_eq-Decides name x).0 equal)) (k, within, at)
-    from_test false is counted = absurd (omega (arith, counted, some))
+times_has name names some =
+    let is : list_any (bytes_eq name) names ≡ true = grind (arith, any_count (bytes_eq name) names) in
+    let (k, x, within, at, equal) = Any-from_list_any (bytes_eq name) names is in
+    subst (Contains names) (sym ((bytes_eq-Decides name x).0 equal)) (k, within, at)
 
 -- slots have the names that they were made of
 pub slot_names : {X : Type 0} (o : Option X) (names : List (List ℕ)) → map (λ x. x.name) (map (λ n. slot n o) names) ≡ names
@@ -108,19 +92,15 @@ pub stack_names : {D X : Type 0} (make : D → Drive X) (reels : D → List (Lis
     → map (λ (x : ReelSlot X). x.name) (flat_map (λ (r : Drive X). r.stack) (map make drives)) ≡ flat_map reels drives
 stack_names make reels same [] = refl
 stack_names {X = X} make reels same (d ∷ drives) =
-    let more = flat_map (λ (r : Drive X). r.stack) (map make drives) in
-    ap (map (λ (x : ReelSlot X). x.name)) (flat_map-cons (λ (r : Drive X). r.stack) (make d) (map make drives))
-    ∙ map-append (λ (x : ReelSlot X). x.name) (make d).stack more ∙ ap (λ ns. ns ++ map (λ (x : ReelSlot X). x.name) more) (same d)
-    ∙ ap (λ ns. reels d ++ ns) (stack_names make reels same drives) ∙ sym (flat_map-cons reels d drives)
+    let more = map-append (λ (x : ReelSlot X). x.name) (make d).stack (flat_map (λ (r : Drive X). r.stack) (map make drives)) in
+    let cons = flat_map-cons (λ (r : Drive X). r.stack) (make d) (map make drives) in
+    grind (arith, more, cons, same d, stack_names make reels same drives, flat_map-cons reels d drives)
 
 pub known_new : (names : List (List ℕ)) (s : TapeLibrary) (drives : List DriveSpec) → names ≡ flat_map reels_of drives
     → s ≡ library (map blank_drive (map plain_drive_spec drives)) [] → IsLibraryKnown names s
 known_new names s drives is laid =
     let stacks = stack_names blank_drive (λ d. d.reels) (λ d. slot_names (Some (kept_reel [] d.capacity)) d.reels) (map plain_drive_spec drives)
     ∙ flat_map-map (λ d. d.reels) plain_drive_spec drives in
-    let all : names_in s ≡ names
-    = ap (λ (v : TapeLibrary). names_in v) laid
-    ∙ ap (map (λ (x : ReelSlot KeptReel). x.name)) (append-nil (flat_map (λ (r : Drive KeptReel). r.stack) (map blank_drive (map plain_drive_spec drives))))
-    ∙ stacks
-    ∙ sym is in
+    let bin = append-nil (flat_map (λ (r : Drive KeptReel). r.stack) (map blank_drive (map plain_drive_spec drives))) in
+    let all : names_in s ≡ names = grind (arith, stacks, bin) in
     record { each = λ name has. times_has name names (subst (λ l. 0 < times name l) all has) }

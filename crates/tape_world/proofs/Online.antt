@@ -1,21 +1,12 @@
 -- Reels that live sides have online.
-use Rattle.tape_world.proofs.Standard.{common_steps, ◌≡◌, ℕ, zero, suc, ◌+◌, ◌<◌, List, [], ◌∷◌, length, take, option_map, Option, Some, None, refl, sym, ap, ◌∙◌, add-one, arith, slice_index_or, option_or, slice_get_within}
-use Rattle.tape_world.proofs.Layers.{AreHeld, Tape, TapeLibrary, PlainSession, drive_in, ServerState, ServerConnection, side_at, side_of, AreOpenThere, tape_online, first_tape_online}
+use Rattle.tape_world.proofs.Layers.{common_steps, ◌≡◌, ℕ, zero, suc, ◌+◌, ◌<◌, List, [], ◌∷◌, length, take, option_map, Option, Some, None, refl, ap, add-one, arith, slice_index_or, option_or, slice_get_within, AreHeld, Tape, TapeLibrary, PlainSession, drive_in, ServerState, ServerConnection, side_at, AreOpenThere, tape_online, first_tape_online}
 use Rattle.tape_world.proofs.Server.{side_found}
-
-there_by : (h : ServerState) (k d : ℕ) (o : Option ServerConnection) (s : PlainSession) → AreOpenThere h → side_of h k ≡ o
-    → option_map (λ (x : ServerConnection). x.session) o ≡ Some s
-    → drive_in s ≡ Some d → d < length h.library.drives
-there_by h k d o s there at told is = grind (arith, common_steps)
 
 -- the drive of a session that is told of a connection
 pub drive_there : (h : ServerState) (k d : ℕ) (s : PlainSession) → AreOpenThere h
     → option_map (λ (x : ServerConnection). x.session) (side_at h.sides k) ≡ Some s
     → drive_in s ≡ Some d → d < length h.library.drives
-drive_there h k d s there told is = there_by h k d (side_at h.sides k) s there (sym (side_found h k)) told is
-
-or_none : {T : Type 0} (a b : Option T) → option_or a b ≡ None → (a ≡ None) × (b ≡ None)
-or_none a b is = grind (arith, common_steps)
+drive_there h k d s there told is = grind (arith, common_steps, side_found h k, there k d)
 
 -- the connection of a place
 pub side_here : (sides : List (Option ServerConnection)) (i : ℕ) → side_at sides (i + 1) ≡ slice_index_or sides i None
@@ -26,9 +17,7 @@ first_here : (name : List ℕ) (s : TapeLibrary) (sides : List (Option ServerCon
     → tape_online name s (slice_index_or sides i None) ≡ Some t → first_tape_online name s sides ≡ Some t
 first_here name s [] i t none some = absurd cc
 first_here name s (x ∷ sides) zero t none some = ap (λ o. option_or o (first_tape_online name s sides)) some
-first_here name s (x ∷ sides) (suc i) t none some =
-    let both = or_none (tape_online name s x) (first_tape_online name s (take i sides)) none in
-    ap (λ o. option_or o (first_tape_online name s sides)) both.0 ∙ first_here name s sides i t both.1 some
+first_here name s (x ∷ sides) (suc i) t none some = grind (arith, common_steps, first_here name s sides i t)
 
 pub first_found : (name : List ℕ) (s : TapeLibrary) (sides : List (Option ServerConnection)) (i : ℕ) (t : Tape) (o : Option Tape)
     → first_tape_online name s (take i sides) ≡ None
@@ -39,9 +28,7 @@ none_here : (name : List ℕ) (s : TapeLibrary) (sides : List (Option ServerConn
     → tape_online name s (slice_index_or sides i None) ≡ None → first_tape_online name s (take (suc i) sides) ≡ None
 none_here name s [] i none here = refl
 none_here name s (x ∷ sides) zero none here = ap (λ o. option_or o None) here
-none_here name s (x ∷ sides) (suc i) none here =
-    let both = or_none (tape_online name s x) (first_tape_online name s (take i sides)) none in
-    ap (λ o. option_or o (first_tape_online name s (take (suc i) sides))) both.0 ∙ none_here name s sides i both.1 here
+none_here name s (x ∷ sides) (suc i) none here = grind (arith, common_steps, none_here name s sides i)
 
 -- one connection more that has none
 pub none_more : (name : List ℕ) (s : TapeLibrary) (sides : List (Option ServerConnection)) (i : ℕ) (o : Option Tape)

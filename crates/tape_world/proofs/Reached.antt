@@ -1,6 +1,5 @@
 -- Bytes that reach the server.
-use Rattle.tape_world.proofs.Standard.{common_steps, ◌≡◌, ℕ, ◌+◌, ◌-◌, ◌≤◌, min, List, ◌++◌, length, take, Option, Some, None, refl, ap, ◌∙◌, arith, length-take, take_all, same_Some}
-use Rattle.tape_world.proofs.Layers.{RequestHeld, Unread, READER_LIMIT, ServerState, server, ServerConnection, side, Hosted, side_at, with_side_at, HasRoom, IsPiecePushed, with_numbered, side_of, HasRoomFor}
+use Rattle.tape_world.proofs.Layers.{common_steps, ◌≡◌, ℕ, ◌≤◌, List, ◌++◌, length, take, Option, Some, None, refl, arith, same_Some, RequestHeld, Unread, ServerState, server, ServerConnection, side, Hosted, side_at, HasRoom, IsPiecePushed, with_numbered, side_of, HasRoomFor}
 use Rattle.tape_world.proofs.Server.{side_found}
 
 -- what came of so many bytes that were pushed to the side of connection k
@@ -12,21 +11,11 @@ pub record Reaches (h : ServerState) (k n : ℕ) (way : List ℕ) (new : ServerS
   pub unread : (bytes : List ℕ) → Unread side_is.reached bytes → Unread reached (bytes ++ take n way)
   pub server_is : new ≡ server h.library h.holders (with_numbered h.sides k (Some (side reached side_is.session)))
 
-pub put_side : (sides : List (Option ServerConnection)) (k : ℕ) (x : Option ServerConnection) → with_side_at sides k x ≡ with_numbered sides k x
-put_side sides k x = cc
-
-whole : (n taken m pushed : ℕ) (way : List ℕ) → n ≤ length way → m + taken ≡ READER_LIMIT → n ≤ m → pushed ≡ min (length (take n way)) (READER_LIMIT - taken)
-    → pushed ≡ n
-whole n taken m pushed way fits room within is = omega (arith, fits, room, within, is, length-take n way)
-
-again : (n pushed : ℕ) (way : List ℕ) → pushed ≡ n → take pushed (take n way) ≡ take n way
-again n pushed way is = ap (λ p. take p (take n way)) is ∙ take_all n (take n way) (omega (arith, length-take n way))
-
 reaches_at : (old : Hosted) (k n : ℕ) (way : List ℕ) (room pushed : ℕ) (r : Option ℕ) (new : Hosted) (o : Option ServerConnection)
     → side_at old.server.sides k ≡ o → HasRoom o r
     → r ≡ Some room → n ≤ length way → n ≤ room → IsPiecePushed old k (take n way) o pushed new → Reaches old.server k n way new.server
 reaches_at old k n way room pushed r new None at has is fits within push = absurd cc
-reaches_at old k n way room pushed r new (Some s) at has is fits within push = grind (arith, common_steps, same_Some, side_found, whole, again, put_side)
+reaches_at old k n way room pushed r new (Some s) at has is fits within push = grind (arith, common_steps, same_Some, side_found)
 
 pub reaches : (old : Hosted) (k n : ℕ) (way : List ℕ) (room pushed : ℕ) (r : Option ℕ) (new : Hosted) → HasRoom (side_at old.server.sides k) r
     → r ≡ Some room → n ≤ length way → n ≤ room → IsPiecePushed old k (take n way) (side_at old.server.sides k) pushed new

@@ -1,35 +1,24 @@
 -- What a turn of the server's side makes of a connection.
-use Rattle.tape_world.proofs.Standard.{common_steps, ◌≡◌, ℕ, suc, Bool, not, List, [], ◌∷◌, ◌++◌, map, Option, Some, refl, ap, ◌∙◌, arith, Vec, Global, Contains, position_or_len, option_to_list, map-append, bytes_eq, bytes_eq-Decides}
-use Rattle.tape_world.proofs.Layers.{Trouble, ServerConnection, Turn, Hosted, hosted, side_at, TurnsAt, TurnsSide, ServesAt, with_back, Connection, without_server, name_at, noted_turn, TurnServes}
-use Rattle.std.specs.Prelude.{option_map, cond, ◌+◌}
+use Rattle.tape_world.proofs.Layers.{common_steps, ◌≡◌, ℕ, suc, Bool, not, List, [], ◌∷◌, ◌++◌, map, Option, Some, refl, ap, ◌∙◌, arith, Vec, Global, Contains, position_or_len, option_to_list, map-append, bytes_eq, bytes_eq-Decides, Trouble, ServerConnection, Turn, Hosted, hosted, side_at, TurnsSide, ServesAt, with_back, Connection, without_server, name_at, noted_turn, TurnServes, option_map, cond, ◌+◌}
 use Rattle.tape_host.specs.Servers.{ended}
 use Rattle.tape_host.specs.declared.turn.Turn.TheVariants as turns
 
--- ---- what is noted of a request
-
 -- ---- the connection after a turn
 
-serves_side : (trouble : Trouble) (old new : Hosted) (k : ℕ) (s : ServerConnection) (turn : Turn) (l x : Connection) (back : List ℕ)
+serves_side : (trouble : Trouble) (old new : Hosted) (k : ℕ) (turn : Turn) (l x : Connection) (back : List ℕ) (s : ServerConnection)
     → side_at old.server.sides k ≡ Some s
     → TurnsSide (hosted (ended old.server k) old.ready) trouble l.cut (with_back old l.back) k s turn (with_back new back)
     → x ≡ noted_turn turn (record l { back = back })
     → TurnServes trouble old k turn new (λ f. x ≡ f l)
-serves_side trouble old new k s turns.Nothing l x back live (none, same, is) so = grind (arith, common_steps)
-serves_side trouble old new k s (turns.Carried c) l x back live (request, reply, carries, ready, told, is) so = grind (arith, common_steps)
-serves_side trouble old new k s (turns.Broken fault) l x back live (gives, after, is) so =
+serves_side trouble old new k turns.Nothing l x back s live (none, same, is) so = grind (arith, common_steps)
+serves_side trouble old new k (turns.Carried c) l x back s live (request, reply, carries, ready, told, is) so = grind (arith, common_steps)
+serves_side trouble old new k (turns.Broken fault) l x back s live (gives, after, is) so =
     (s, live, gives, after, so ∙ ap (λ b. without_server (record l { back = b })) is)
-
-serves_from : (trouble : Trouble) (old new : Hosted) (k : ℕ) (o : Option ServerConnection) (turn : Turn) (l x : Connection) (back : List ℕ)
-    → side_at old.server.sides k ≡ o
-    → TurnsAt (hosted (ended old.server k) old.ready) trouble l.cut (with_back old l.back) k o turn (with_back new back)
-    → x ≡ noted_turn turn (record l { back = back })
-    → TurnServes trouble old k turn new (λ f. x ≡ f l)
-serves_from trouble old new k o turn l x back over t so = grind (arith, common_steps, serves_side)
 
 pub serves_connection : (trouble : Trouble) (old new : Hosted) (k : ℕ) (turn : Turn) (l x : Connection) (back : List ℕ)
     → ServesAt trouble l.cut old k l.back turn new back
     → x ≡ noted_turn turn (record l { back = back }) → TurnServes trouble old k turn new (λ f. x ≡ f l)
-serves_connection trouble old new k turn l x back t so = serves_from trouble old new k (side_at old.server.sides k) turn l x back refl t so
+serves_connection trouble old new k turn l x back t so = grind (arith, common_steps, serves_side trouble old new k turn l x back)
 
 -- the same, of all connections
 pub serves_as : (trouble : Trouble) (old new : Hosted) (k : ℕ) (turn : Turn) (p q : (Connection → Connection) → Type 0)

@@ -1,11 +1,6 @@
 -- What the client's next request makes of it.
-use Rattle.tape_world.proofs.Standard.{common_steps, ◌≡◌, ◌≤◌, ℕ, Bool, true, false, List, [], length, length-append, decimal, Option, Some, None, refl, sym, subst, arith, Result, Ok, Err}
-use Rattle.tape_world.proofs.Layers.{READER_LIMIT, PlainRequest, HasSpelling, IsTextOf, SpellsRequest, request_text, ListedBlocks, ListedRead, AreBlocksOf, listed, PlainRun, Standing, standing, checkpoint_of, ClientHeld, HasFed, IsShapedAs, NextRequestAt, ReadAt, ReadBy, RealCaller, Asks, IsToSend, Step, Open, Operation, Look, Label, Block, Close, ToSend, Waiting, Asking, AttemptFault, SourceFault, is_failing}
+use Rattle.tape_world.proofs.Layers.{common_steps, ◌≡◌, ◌≤◌, ℕ, Bool, true, false, List, [], length, length-append, decimal, Option, Some, None, arith, Result, Ok, Err, READER_LIMIT, PlainRequest, HasSpelling, IsTextOf, request_text, ListedBlocks, ListedRead, AreBlocksOf, listed, PlainRun, Standing, standing, checkpoint_of, ClientHeld, HasFed, IsShapedAs, NextRequestAt, ReadAt, ReadBy, RealCaller, Asks, IsToSend, Step, ToSend, Waiting, Asking, AttemptFault, SourceFault, is_failing, length-decimal-le, request_of}
 use Rattle.world_model.proofs.ToldSends.{small_number}
-use Rattle.std.proofs.lemmas.Fmt.{length-decimal-le}
-use Rattle.rmt_wire.specs.Request.PlainRequest.{Open as OpenDevice, Write}
-use Rattle.rmt_wire.specs.declared.fcntl.TheConstants.{O_RDWR}
-use Rattle.dump_client.specs.Script.{request_of}
 
 ten_digits : (n : ℕ) → n ≤ 2147483647 → length (decimal n) ≤ 10
 ten_digits n small = length-decimal-le 10 n (omega arith) (omega arith) (omega arith)
@@ -13,28 +8,10 @@ ten_digits n small = length-decimal-le 10 n (omega arith) (omega arith) (omega a
 within : (request : PlainRequest) → HasSpelling request → length (request_text request) ≤ READER_LIMIT
 within request h = grind (arith, common_steps, ten_digits, length-append)
 
-write_spelled : (text bytes : List ℕ) → SpellsRequest text (Write bytes) → HasSpelling (Write bytes)
-write_spelled text bytes (number, spells, short, is) = short
-
-open_spelled : (text device : List ℕ) → SpellsRequest text (OpenDevice device O_RDWR) → HasSpelling (OpenDevice device O_RDWR)
-open_spelled text device (line, isline, mode, is) = (isline, omega arith)
-
-text_as : (x y : PlainRequest) → x ≡ y → IsTextOf (request_text x) x → IsTextOf (request_text y) y
-text_as x y same text = subst (λ r. IsTextOf (request_text r) r) same text
-
 -- a block's write has its spelling whatever its bytes are
 spelled : (run : PlainRun) (at : ℕ × ℕ) (step : Step) (request : PlainRequest) → IsShapedAs run at step request → IsTextOf (request_text request) request
     → HasSpelling request
-spelled run at Open request is text = subst HasSpelling (sym is) (open_spelled _ run.device (text_as _ _ is text [] refl))
-spelled run at (Operation op) request is text = subst HasSpelling (sym is) (small_number op, omega arith)
-spelled run at Look request is text = subst HasSpelling (sym is) (omega arith)
-spelled run at Label request is text = subst HasSpelling (sym is) (write_spelled _ _ (text_as _ _ is text [] refl))
-spelled run at (Block n) request (block, is, size) text = subst HasSpelling (sym is) (write_spelled _ _ (text_as _ _ is text [] refl))
-spelled run at Close request is text = subst HasSpelling (sym is) tt
-
-short_text : (run : PlainRun) (at : ℕ × ℕ) (step : Step) (request : PlainRequest) → IsShapedAs run at step request → IsTextOf (request_text request) request
-    → length (request_text request) ≤ READER_LIMIT
-short_text run at step request is text = within request (spelled run at step request is text)
+spelled run at step request is text = grind (arith, text [], small_number)
 
 -- what a request came to
 abbrev pub Came : Bool → Step → Standing → List (List ℕ) → List ℕ → Result Bool AttemptFault → Standing → Type 0
@@ -46,7 +23,7 @@ Came false step at blocks text r new =
 pub came : (fails : Bool) (step : Step) (at now : Standing) (old new : ListedBlocks) (capacity size : ℕ) (text : List ℕ) (r : Result Bool AttemptFault)
     → READER_LIMIT ≤ capacity → old.troubled ≡ fails → NextRequestAt (ToSend step) (AreBlocksOf old) at capacity [] r text now
     → ReadBy step size ListedRead old [] r new text → Came (is_failing fails step) step at old.blocks text r now
-came fails step at now old new capacity size text r room is h12 read = grind (arith, common_steps, short_text)
+came fails step at now old new capacity size text r room is h12 read = grind (arith, common_steps, within, spelled)
 
 -- what is told of it
 abbrev pub told_of : ℕ → Result Bool AttemptFault → Option (ℕ × AttemptFault)

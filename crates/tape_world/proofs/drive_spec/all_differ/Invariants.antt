@@ -1,5 +1,4 @@
-use Rattle.std.proofs.Common.{◌≡◌, map, drop}
-use Rattle.drives.specs.Arranging.{are_distinct}
+use Rattle.tape_world.proofs.Layers.{◌≡◌, map, drop, are_distinct}
 use Rattle.tape_world.proofs.drive_spec.all_differ.Given as goal
 
 -- the names before the place differ from all others

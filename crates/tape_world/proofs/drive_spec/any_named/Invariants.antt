@@ -1,4 +1,4 @@
-use Rattle.tape_world.proofs.Standard.{◌≡◌, drop, list_any, bytes_eq}
+use Rattle.tape_world.proofs.Layers.{◌≡◌, drop, list_any, bytes_eq}
 use Rattle.tape_world.proofs.drive_spec.any_named.Given as goal
 
 -- no drive before this one has the name

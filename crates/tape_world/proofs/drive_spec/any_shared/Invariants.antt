@@ -1,5 +1,4 @@
-use Rattle.tape_world.proofs.Standard.{◌≡◌, drop, list_any}
-use Rattle.tape_world.specs.Making.{names_again}
+use Rattle.tape_world.proofs.Layers.{◌≡◌, drop, list_any, names_again}
 use Rattle.tape_world.proofs.drive_spec.any_shared.Given as goal
 
 -- no name before this one is that of a reel

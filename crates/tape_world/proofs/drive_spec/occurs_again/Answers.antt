@@ -1,4 +1,4 @@
-use Rattle.drives.proofs.Arranging.{repeated_is}
+use Rattle.tape_world.proofs.Layers.{repeated_is}
 use Rattle.tape_world.proofs.drive_spec.occurs_again.Goals as goal
 
 pub returns : goal.returns

@@ -1,5 +1,4 @@
-use Rattle.tape_world.proofs.Standard.{◌≡◌, drop, flat_map}
-use Rattle.tape_world.proofs.Layers.{are_distinct, reels_of}
+use Rattle.tape_world.proofs.Layers.{◌≡◌, drop, flat_map, are_distinct, reels_of}
 use Rattle.tape_world.proofs.drive_spec.reels_differ.Given as goal
 
 -- the reels of the drives before the place differ from all others

@@ -1,5 +1,4 @@
-use Rattle.tape_world.proofs.Layers.{Runs, plain_event}
-use Rattle.std.proofs.Common.{map, take}
+use Rattle.tape_world.proofs.Layers.{Runs, plain_event, map, take}
 use Rattle.tape_world.proofs.running.run.Given as goal
 
 abbrev pub invariant-loop-i : goal.invariant-loop-i

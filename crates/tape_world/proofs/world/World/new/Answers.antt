@@ -1,5 +1,4 @@
-use Rattle.tape_world.proofs.Layers.{IsReached, none, plain_drive_spec}
-use Rattle.std.proofs.Common.{[], sym, subst, map}
+use Rattle.tape_world.proofs.Layers.{IsReached, none, plain_drive_spec, [], sym, subst, map}
 use Rattle.tape_world.proofs.world.World.new.Goals as goal
 
 pub invariant_of-result : goal.invariant_of-result

@@ -1,4 +1,4 @@
-use Rattle.tape_world.proofs.Standard.{common_steps, arith, refl, sym}
+use Rattle.tape_world.proofs.Layers.{common_steps, arith, refl, sym}
 use Rattle.tape_world.proofs.Online.{first_found, none_more}
 use Rattle.tape_world.proofs.world.reels.find_online.Goals as goal
 

@@ -1,5 +1,4 @@
-use Rattle.std.proofs.Common.{◌≡◌, None, take}
-use Rattle.tape_world.specs.Entries.{first_tape_online}
+use Rattle.tape_world.proofs.Layers.{◌≡◌, None, take, first_tape_online}
 use Rattle.tape_world.proofs.world.reels.find_online.Given as goal
 
 abbrev pub invariant-loop-place : goal.invariant-loop-place

@@ -1,7 +1,6 @@
-use Rattle.std.proofs.Common.{rules, sym, ap}
+use Rattle.tape_world.proofs.Layers.{rules, sym, ap, drive_in}
 use Rattle.rmt_server.specs.Memory.{session_seen}
 use Rattle.rmt_server.specs.State.{IsOnline}
-use Rattle.rmt_server.specs.TroubledServe.{drive_in}
 use Rattle.tape_world.proofs.Online.{drive_there}
 use Rattle.tape_world.proofs.world.reels.find_online_at.Goals as goal
 

@@ -1,5 +1,4 @@
-use Rattle.tape_world.proofs.Standard.{common_steps, arith, false, map, refl, sym, subst, ◌≡◌}
-use Rattle.tape_world.proofs.Layers.{IsWorldKept, with_no_failure, Happens, Arrange, the_view}
+use Rattle.tape_world.proofs.Layers.{common_steps, arith, false, map, refl, sym, subst, ◌≡◌, IsWorldKept, with_no_failure, Happens, Arrange, the_view}
 use Rattle.tape_world.proofs.Known.{known_after}
 use Rattle.tape_world.proofs.world_state.WorldState.arrange.Goals.{After-is_err}
 use Rattle.tape_world.proofs.world_state.WorldState.arrange.Goals as goal

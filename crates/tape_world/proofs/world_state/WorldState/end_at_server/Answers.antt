@@ -1,5 +1,4 @@
-use Rattle.tape_world.proofs.Standard.{common_steps, arith, refl, ap, subst, sym, ◌∙◌}
-use Rattle.tape_world.proofs.Layers.{World, with_no_failure, ended_at, EndAtServer, Possible, IsWorldKept, the_view}
+use Rattle.tape_world.proofs.Layers.{common_steps, arith, refl, ap, subst, sym, ◌∙◌, World, with_no_failure, ended_at, EndAtServer, Possible, IsWorldKept, the_view}
 use Rattle.tape_world.proofs.Server.{ended_is, side_found}
 use Rattle.tape_world.proofs.Known.{known_after}
 use Rattle.tape_world.proofs.world_state.WorldState.end_at_server.Goals.{After-end}

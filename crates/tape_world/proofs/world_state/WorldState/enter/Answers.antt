@@ -1,7 +1,5 @@
-use Rattle.tape_world.proofs.Layers.{plain_entry, seen_caller}
-use Rattle.std.proofs.Common.{rules, ◌≡◌, option_map, sym, ap, ◌∙◌}
+use Rattle.tape_world.proofs.Layers.{plain_entry, seen_caller, rules, ◌≡◌, option_map, sym, ap, ◌∙◌, entered}
 use Rattle.std.proofs.lemmas.Bool.{false≢true}
-use Rattle.dumpdates.specs.Dates.{entered}
 use Rattle.tape_world.proofs.Clients.{tells_finished}
 use Rattle.tape_world.proofs.world_state.WorldState.enter.Goals as goal
 

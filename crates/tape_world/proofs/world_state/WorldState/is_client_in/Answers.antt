@@ -1,4 +1,4 @@
-use Rattle.std.proofs.Common.{rules, ap, sym}
+use Rattle.tape_world.proofs.Layers.{rules, ap, sym}
 use Rattle.tape_world.proofs.Clients.{stands}
 use Rattle.tape_world.proofs.world_state.WorldState.is_client_in.Goals as goal
 

@@ -1,4 +1,4 @@
-use Rattle.std.proofs.Common.{refl}
+use Rattle.tape_world.proofs.Layers.{refl}
 use Rattle.tape_world.proofs.Made.{none_latched, first_server}
 use Rattle.tape_world.proofs.world_state.WorldState.new.Goals as goal
 

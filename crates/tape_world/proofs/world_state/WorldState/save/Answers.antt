@@ -1,5 +1,4 @@
-use Rattle.std.proofs.Common.{option_map, sym, ap, ◌∙◌}
-use Rattle.tape_world.specs.Seen.{seen_caller}
+use Rattle.tape_world.proofs.Layers.{option_map, sym, ap, ◌∙◌, seen_caller}
 use Rattle.tape_world.proofs.Saving.{backed_saved}
 use Rattle.tape_world.proofs.world_state.WorldState.save.Goals as goal
 

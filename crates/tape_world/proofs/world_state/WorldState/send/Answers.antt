@@ -1,5 +1,4 @@
-use Rattle.tape_world.proofs.Standard.{common_steps, arith, ◌≡◌, sym, ap, ◌∙◌, option_map}
-use Rattle.tape_world.proofs.Layers.{the_view, seen_caller, world_of}
+use Rattle.tape_world.proofs.Layers.{common_steps, arith, ◌≡◌, sym, ap, ◌∙◌, option_map, the_view, seen_caller, world_of}
 use Rattle.tape_world.proofs.Sending.{to_send, has_own, own_after, talked_event, talked_world}
 use Rattle.tape_world.proofs.world_state.WorldState.send.Goals as goal
 

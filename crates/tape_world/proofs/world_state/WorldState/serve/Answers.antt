@@ -1,40 +1,33 @@
-use Rattle.tape_world.proofs.Layers.{changed, Connection, Serve, Happens, the_view, HistoryHeld, IsWorldKept, TurnServes, IsLibraryKnown}
-use Rattle.std.proofs.Common.{◌≡◌, ◌≢◌, List, refl, sym, ap, subst, ◌∙◌}
+use Rattle.tape_world.proofs.Layers.{changed, Serve, Happens, the_view, HistoryHeld, IsWorldKept, TurnServes, IsLibraryKnown, ◌≡◌, ◌≢◌, refl, sym, ap, subst, ◌∙◌, World}
 use Rattle.tape_world.proofs.Numbered.{same_connections}
 use Rattle.tape_world.proofs.Known.{known_after}
 use Rattle.tape_world.proofs.ServingRow.{nothing_there, turned, serves_happens, opened_known, written_known, online_in, noted_history}
-use Rattle.tape_host.specs.declared.turn.Turn.TheVariants as turns
 use Rattle.tape_world.proofs.world_state.WorldState.serve.Goals.{In_ok-turn}
+use Rattle.tape_host.specs.declared.turn.Turn.TheVariants as turns
 use Rattle.tape_world.proofs.world_state.WorldState.serve.Goals as goal
 
--- the connections after the turn
-abbrev connections_then : (c : In_ok-turn) → List Connection
-connections_then c = c.take_turn_at.new.connections.list
+-- the world after the turn
+abbrev after_turn : In_ok-turn → World
+after_turn c = turned (the_view c.self.inside) c.args.connection c.take_turn_at.new.host.server c.in_ok-turn.turn c.take_turn_at.new.connections.list
 
 -- a request or a fault was served: the opening or the writing is to be noted
-happens : (c : In_ok-turn) → c.in_ok-turn.turn ≢ turns.Nothing → Happens (the_view c.self.inside) (Serve c.args.connection c.args.trouble)
-    (turned (the_view c.self.inside) c.args.connection c.take_turn_at.new.host.server c.in_ok-turn.turn (connections_then c))
+happens : (c : In_ok-turn) → c.in_ok-turn.turn ≢ turns.Nothing → Happens (the_view c.self.inside) (Serve c.args.connection c.args.trouble) (after_turn c)
 happens c some =
     serves_happens c.args.trouble c.args.connection (the_view c.self.inside) c.self.inside.host c.take_turn_at.new.host c.in_ok-turn.turn
-    (connections_then c) refl
-    c.in_ok-turn.ensures.taken some
+    c.take_turn_at.new.connections.list refl c.in_ok-turn.ensures.taken some
 
 -- so no reel came or went
 known : (c : In_ok-turn) → c.in_ok-turn.turn ≢ turns.Nothing → IsLibraryKnown c.self.inside.history.names c.take_turn_at.new.host.server.library
 known c some =
-    let w = the_view c.self.inside in
-    let u = turned w c.args.connection c.take_turn_at.new.host.server c.in_ok-turn.turn (connections_then c) in
-    known_after c.self.inside.history.names w u c.take_turn_at.new.host.server.library
-    (c.kept.ensures.names w u (Serve c.args.connection c.args.trouble) (subst IsWorldKept (sym c.self.view_is) c.requires) (happens c some)) refl
-    c.self.invariant.1
+    known_after c.self.inside.history.names (the_view c.self.inside) (after_turn c) c.take_turn_at.new.host.server.library
+    (c.kept.ensures.names (the_view c.self.inside) (after_turn c) (Serve c.args.connection c.args.trouble) (subst IsWorldKept (sym c.self.view_is) c.requires)
+    (happens c some)) refl c.self.invariant.1
 
 -- and all stays so
-kept : (c : In_ok-turn) → c.in_ok-turn.turn ≢ turns.Nothing
-    → IsWorldKept (turned (the_view c.self.inside) c.args.connection c.take_turn_at.new.host.server c.in_ok-turn.turn (connections_then c))
+kept : (c : In_ok-turn) → c.in_ok-turn.turn ≢ turns.Nothing → IsWorldKept (after_turn c)
 kept c some =
-    c.kept.ensures.after (the_view c.self.inside)
-    (turned (the_view c.self.inside) c.args.connection c.take_turn_at.new.host.server c.in_ok-turn.turn (connections_then c))
-    (Serve c.args.connection c.args.trouble) (subst IsWorldKept (sym c.self.view_is) c.requires) (happens c some)
+    c.kept.ensures.after (the_view c.self.inside) (after_turn c) (Serve c.args.connection c.args.trouble) (subst IsWorldKept (sym c.self.view_is) c.requires)
+    (happens c some)
 
 pub returns-in-Nothing : goal.returns-in-Nothing
 returns-in-Nothing c =
@@ -51,15 +44,13 @@ note_turn-requires c =
     let at = (goal.at.note_turn-requires c).In_ok-turn in
     let some = c.in_default.not-Nothing in
     let after = kept at some in
-    let same : c.reserve_notes.new.self.names ≡ c.self.inside.history.names = ap (λ b. b.names) c.in_ok-reserve_notes.ensures.same in
-    let all = subst (λ names. IsLibraryKnown names c.take_turn_at.new.host.server.library) (sym same) (known at some) in
+    let same = sym c.in_ok-reserve_notes.ensures.same in
+    let all = subst (λ (b : HistoryHeld). IsLibraryKnown b.names c.take_turn_at.new.host.server.library) same (known at some) in
     record {
       room = c.in_ok-reserve_notes.ensures.room;
       there = online_in c.take_turn_at.new.host.server c.args.connection after.held;
-      opened = λ name. opened_known _ (the_view c.self.inside) c.args.connection c.take_turn_at.new.host.server c.in_ok-turn.turn (connections_then at) name
-          after all;
-      written = λ name. written_known _ (the_view c.self.inside) c.args.connection c.take_turn_at.new.host.server c.in_ok-turn.turn (connections_then at)
-          name after all;
+      opened = λ name. opened_known _ (the_view c.self.inside) c.args.connection c.take_turn_at.new.host.server c.in_ok-turn.turn _ name after all;
+      written = λ name. written_known _ (the_view c.self.inside) c.args.connection c.take_turn_at.new.host.server c.in_ok-turn.turn _ name after all;
     }
 
 pub invariant_of-self-2 : goal.invariant_of-self-2
@@ -71,12 +62,8 @@ invariant_of-self-2 c =
 pub returns : goal.returns
 returns c =
     let w = the_view c.self.inside in
-    let server = c.take_turn_at.new.host.server in
-    let noted = noted_history w server c.take_turn_at.new.connections.list c.reserve_notes.new.self c.note_turn.new.self c.in_ok-list.list.items
-    c.args.connection
-    c.in_ok-turn.turn c.in_ok-list.ensures c.note_turn.ensures in
-    let same = ap (λ (b : HistoryHeld). turned (record w { counts = b.counts; opens = b.opens; lists = b.lists; writings = b.writings; entered = b.entered })
-    c.args.connection server
-    c.in_ok-turn.turn c.take_turn_at.new.connections.list) c.in_ok-reserve_notes.ensures.same in
-    rw (← c.self.view_is) (subst (Happens w (Serve c.args.connection c.args.trouble)) (sym (noted ∙ same))
+    let noted = noted_history w c.take_turn_at.new.host.server c.take_turn_at.new.connections.list c.self.inside.history c.reserve_notes.new.self
+    c.note_turn.new.self c.in_ok-list.list.items c.args.connection c.in_ok-turn.turn c.in_ok-list.ensures c.in_ok-reserve_notes.ensures.same
+    c.note_turn.ensures in
+    rw (← c.self.view_is) (subst (Happens w (Serve c.args.connection c.args.trouble)) (sym noted)
     (happens (goal.at.returns c).In_ok-turn c.in_default.not-Nothing))

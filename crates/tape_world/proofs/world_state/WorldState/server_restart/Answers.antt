@@ -1,6 +1,4 @@
-use Rattle.tape_world.proofs.Layers.{with_no_failure, restarted, ServerRestart, IsWorldKept, the_view}
-use Rattle.std.proofs.Common.{refl, sym, ap, subst, ◌∙◌}
-use Rattle.std.specs.Prelude.{length}
+use Rattle.tape_world.proofs.Layers.{with_no_failure, restarted, ServerRestart, IsWorldKept, the_view, refl, sym, ap, subst, ◌∙◌, length}
 use Rattle.tape_world.proofs.Server.{all_ended_is}
 use Rattle.tape_world.proofs.Known.{known_after}
 use Rattle.tape_world.proofs.world_state.WorldState.server_restart.Goals as goal

@@ -1,6 +1,4 @@
-use Rattle.tape_world.proofs.Standard.{rules, ◌≡◌, Some, common_steps, refl, sym, subst, arith}
-use Rattle.tape_world.proofs.Layers.{AttemptState, the_view, HasHeard, plain_connection, IsOwned}
-use Rattle.std.specs.Prelude.{◌≤◌, length, take}
+use Rattle.tape_world.proofs.Layers.{rules, ◌≡◌, Some, common_steps, refl, sym, subst, arith, AttemptState, the_view, HasHeard, plain_connection, IsOwned, ◌≤◌, length, take, List, ℕ}
 use Rattle.tape_world.proofs.Clients.{sourced_same}
 use Rattle.tape_world.proofs.HearingWorld.{attempts, counts_kept, heard_step}
 use Rattle.tape_world.proofs.world_state.WorldState.to_client.Goals as goal
@@ -21,12 +19,9 @@ returns c =
     let heard = c.hear-heard.result in
     let kept = counts_kept c.self.inside.history c.reserve_count.new.self c.keep.new.self heard.run c.reel_of-reel.result c.args.connection heard.count
     c.reserve_count.ensures.same c.reel_of-reel.ensures c.keep.ensures in
+    let few = subst (λ (b : List ℕ). c.args.count ≤ length b) c.bytes-way.ensures c.if-way-count.false in
     rw (← c.self.view_is) (
-      (
-        l,
-        (c.in-Some.ensures, c.if-not-conn.false),
-        (omega (arith, c.if-count-eq0.false), subst (λ b. c.args.count ≤ length b) c.bytes-way.ensures c.if-way-count.false),
-      ),
+      (l, (c.in-Some.ensures, c.if-not-conn.false), (omega (arith, c.if-count-eq0.false), few)),
       (
         l,
         c.in-Some.ensures,

@@ -1,4 +1,4 @@
-use Rattle.std.proofs.Common.{rules, ap}
+use Rattle.tape_world.proofs.Layers.{rules, ap}
 use Rattle.tape_world.proofs.Made.{known_new}
 use Rattle.tape_world.proofs.world_state.WorldState.with_host.Goals as goal
 

@@ -1,4 +1,4 @@
-use Rattle.tape_world.proofs.Standard.{◌≡◌, ◌∙◌, refl, ap, length, slice_get}
+use Rattle.tape_world.proofs.Layers.{◌≡◌, refl, length, slice_get}
 use Rattle.tape_world.proofs.Hearing.{counted_new, fed_moves, inside}
 use Rattle.tape_world.proofs.world_state.hearing.hear.Goals as goal
 
@@ -8,8 +8,7 @@ returns c =
     let within = inside c.args.caller.now c.in-Some.caller c.in-Some.is c.requires in
     let moved = c.feed-progress.ensures.moved fed.0 fed.1 in
     let count : c.count_at.result ≡ slice_get c.feed-progress.new.self.at.counts (length c.in-Some.caller.client.at.counts)
-    = c.count_at.ensures ∙ ap (λ cs. slice_get cs (length c.counted-before.result.now)) c.counted.ensures
-    ∙ ap (λ cs. slice_get c.feed-progress.new.self.at.counts (length cs)) c.counted-before.ensures in
+    = cc (c.count_at.ensures, c.counted.ensures, c.counted-before.ensures) in
     record {
       before = c.in-Some.caller;
       after = record { number = c.in-Some.caller.number; client = c.feed-progress.new.self };

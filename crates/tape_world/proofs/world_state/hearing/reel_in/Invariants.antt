@@ -1,5 +1,4 @@
-use Rattle.tape_world.proofs.Layers.{reel_opened_by, seen_opening}
-use Rattle.std.proofs.Common.{◌≡◌, ℕ, List, map, drop}
+use Rattle.tape_world.proofs.Layers.{reel_opened_by, seen_opening, ◌≡◌, ℕ, List, map, drop}
 use Rattle.tape_world.proofs.world_state.hearing.reel_in.Given as goal
 
 -- no opening before this one is of the connection

@@ -1,4 +1,4 @@
-use Rattle.tape_world.proofs.Standard.{common_steps, arith}
+use Rattle.tape_world.proofs.Layers.{common_steps, arith}
 use Rattle.tape_world.proofs.Made.{drive_laid}
 use Rattle.tape_world.proofs.Free.{reels_once}
 use Rattle.tape_world.proofs.world_state.making.add_drive.Goals as goal

@@ -1,4 +1,4 @@
-use Rattle.tape_world.proofs.Standard.{common_steps, ap, ◌∙◌, arith, is_err}
+use Rattle.tape_world.proofs.Layers.{common_steps, ap, ◌∙◌, arith, is_err}
 use Rattle.tape_world.proofs.Made.{next_reel, same_drives}
 use Rattle.tape_world.proofs.Free.{next_fault}
 use Rattle.tape_world.proofs.world_state.making.add_reels.Goals as goal

@@ -1,5 +1,4 @@
-use Rattle.tape_world.proofs.Layers.{IsLibrary, library_of, StacksCanFail, blank_slots, with_slots}
-use Rattle.std.proofs.Common.{◌≡◌, length, map, drop}
+use Rattle.tape_world.proofs.Layers.{IsLibrary, library_of, StacksCanFail, blank_slots, with_slots, ◌≡◌, length, map, drop}
 use Rattle.tape_world.proofs.world_state.making.add_reels.Given as goal
 
 abbrev pub invariant-loop-name : goal.invariant-loop-name

@@ -1,5 +1,4 @@
-use Rattle.tape_world.proofs.Standard.{◌≡◌, map, take, flat_map}
-use Rattle.tape_world.specs.Making.{reels_of}
+use Rattle.tape_world.proofs.Layers.{◌≡◌, map, take, flat_map, reels_of}
 use Rattle.tape_world.proofs.world_state.making.names_of.Given as goal
 
 abbrev pub invariant-loop-drive : goal.invariant-loop-drive

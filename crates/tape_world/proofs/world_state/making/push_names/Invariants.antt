@@ -1,4 +1,4 @@
-use Rattle.std.proofs.Common.{◌≡◌, ◌++◌, map, take}
+use Rattle.tape_world.proofs.Layers.{◌≡◌, ◌++◌, map, take}
 use Rattle.tape_world.proofs.world_state.making.push_names.Given as goal
 
 abbrev pub invariant-loop-name : goal.invariant-loop-name

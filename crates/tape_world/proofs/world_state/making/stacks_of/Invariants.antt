@@ -1,5 +1,4 @@
-use Rattle.tape_world.proofs.Layers.{IsLibrary, library_of, StacksCanFail, laid_library}
-use Rattle.std.proofs.Common.{◌≡◌, drop}
+use Rattle.tape_world.proofs.Layers.{IsLibrary, library_of, StacksCanFail, laid_library, ◌≡◌, drop}
 use Rattle.tape_world.proofs.Made.{laid_after}
 use Rattle.tape_world.proofs.world_state.making.stacks_of.Given as goal
 

@@ -1,5 +1,4 @@
-use Rattle.tape_world.proofs.Standard.{common_steps, arith, ◌≡◌, sym, subst}
-use Rattle.tape_world.proofs.Layers.{SpellsCheckpoint, IsBacked}
+use Rattle.tape_world.proofs.Layers.{common_steps, arith, ◌≡◌, sym, subst, SpellsCheckpoint, IsBacked}
 use Rattle.tape_world.proofs.Saving.{at_index, back_payload}
 use Rattle.tape_world.proofs.world_state.saving.resume_run.Goals as goal
 

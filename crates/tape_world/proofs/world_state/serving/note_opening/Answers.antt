@@ -1,5 +1,4 @@
-use Rattle.tape_world.proofs.Standard.{refl, sym, ap, ◌∙◌, map, option_copied}
-use Rattle.tape_world.proofs.Layers.{opening, seen_opening}
+use Rattle.tape_world.proofs.Layers.{refl, sym, ap, ◌∙◌, map, option_copied, opening, seen_opening}
 use Rattle.tape_world.proofs.Serving.{noted_more}
 use Rattle.tape_world.proofs.world_state.serving.note_opening.Goals as goal
 

@@ -1,4 +1,4 @@
-use Rattle.tape_world.proofs.Standard.{◌≡◌, ◌+◌, drop, position_or_len, bytes_eq}
+use Rattle.tape_world.proofs.Layers.{◌≡◌, ◌+◌, drop, position_or_len, bytes_eq}
 use Rattle.tape_world.proofs.world_state.serving.place_of.Given as goal
 
 -- the name is none of those before this place

@@ -1,5 +1,4 @@
-use Rattle.tape_world.proofs.Layers.{ServesAt, plain_connection}
-use Rattle.std.proofs.Common.{sym, subst}
+use Rattle.tape_world.proofs.Layers.{ServesAt, plain_connection, sym, subst}
 use Rattle.tape_world.proofs.Serving.{serves_connection}
 use Rattle.tape_world.proofs.world_state.serving.take_turn.Goals as goal
 

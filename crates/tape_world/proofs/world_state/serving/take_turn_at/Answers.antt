@@ -1,4 +1,4 @@
-use Rattle.tape_world.proofs.Standard.{common_steps, arith, ap, IfOk-weaker, on_err_weaker}
+use Rattle.tape_world.proofs.Layers.{common_steps, arith, ap, IfOk-weaker, on_err_weaker}
 use Rattle.tape_world.proofs.Numbered.{put_there, put_back}
 use Rattle.tape_world.proofs.Serving.{serves_as}
 use Rattle.tape_world.proofs.world_state.serving.take_turn_at.Goals as goal

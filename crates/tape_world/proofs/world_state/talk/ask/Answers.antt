@@ -1,5 +1,4 @@
-use Rattle.std.proofs.Common.{Some, refl, ap, subst}
-use Rattle.tape_world.specs.Talking.{Asks}
+use Rattle.tape_world.proofs.Layers.{Some, refl, ap, subst, Asks}
 use Rattle.tape_world.proofs.Talking.{asks, told_of}
 use Rattle.tape_world.proofs.world_state.talk.ask.Goals as goal
 
