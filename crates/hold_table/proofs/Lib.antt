@@ -1,9 +1,8 @@
+pub mod Names
 pub mod Lists
 pub mod Keeps
 pub mod Spread
 pub mod Allowed
-pub mod Fewer
 pub mod Ended
 pub mod Dealt
-pub mod Holders
 pub mod Moved

@@ -1,28 +1,25 @@
 -- Lists read by `get_elem?`.
-use Rattle.std.proofs.Common.{◌≡◌, ◌⊎◌, inl, inr, ⊎_elim, ℕ, zero, suc, ◌+◌, ◌<◌, List, [], ◌∷◌, ◌++◌, map, length, replicate, get_or, sym, refl, ap, subst, arith}
+use Rattle.std.proofs.Common.{◌≡◌, ◌⊎◌, inl, inr, ⊎_elim, ℕ, zero, suc, ◌+◌, ◌<◌, List, [], ◌∷◌, ◌++◌, map, length, replicate, get_or, sym, refl, arith}
+use Rattle.std.proofs.lemmas.List.{get_or_default}
 use mathlib.Core.Option.{some, some-injective, some-ne-none}
 use lib.ListN.{get_elem?}
+use Rattle.atomic_table.proofs.Lists.{at_index}
 
 module _ {A : Type 0} where
-  pub at_below : (l : List A) (i : ℕ) (a : A) → get_elem? l i ≡ some a → i < length l
-  at_below [] i a e = absurd (some-ne-none a (sym e))
-  at_below (x ∷ xs) zero a e = omega arith
-  at_below (x ∷ xs) (suc i) a e = let r = at_below xs i a e in omega arith
+  -- what a list has at an index lies inside it, and is what `get_or` reads there
+  pub reads : (l : List A) (k : ℕ) (a d : A) → get_elem? l k ≡ some a → (k < length l) × (get_or l k d ≡ a)
+  reads [] k a d e = absurd (some-ne-none a (sym e))
+  reads (x ∷ xs) zero a d e = (omega arith, some-injective x a e)
+  reads (x ∷ xs) (suc k) a d e = let r = reads xs k a d e in let r0 = r.0 in (omega arith, r.1)
 
-  pub there : (l : List A) (i : ℕ) → i < length l → (a : A) × (get_elem? l i ≡ some a)
-  there [] i h = absurd (omega arith)
-  there (x ∷ xs) zero h = (x, refl)
-  there (x ∷ xs) (suc i) h = there xs i (omega arith)
+  pub there : (l : List A) (i : ℕ) (d : A) → i < length l → get_elem? l i ≡ some (get_or l i d)
+  there l i d h = at_index l i (get_or l i d) h (get_or_default l i d (get_or l i d) h)
 
   pub at_snoc_where : (l : List A) (a b : A) (j : ℕ) → get_elem? (l ++ a ∷ []) j ≡ some b → (get_elem? l j ≡ some b) ⊎ ((j ≡ length l) × (a ≡ b))
   at_snoc_where [] a b zero e = inr (refl, some-injective a b e)
   at_snoc_where [] a b (suc j) e = absurd (some-ne-none b (sym e))
   at_snoc_where (x ∷ xs) a b zero e = inl e
   at_snoc_where (x ∷ xs) a b (suc j) e = ⊎_elim inl (λ t. let t0 = t.0 in inr (omega arith, t.1)) (at_snoc_where xs a b j e)
-
-  pub only : (a b : A) (k : ℕ) → get_elem? (a ∷ []) k ≡ some b → (k ≡ 0) × (a ≡ b)
-  only a b zero e = (refl, some-injective a b e)
-  only a b (suc k) e = absurd (some-ne-none b (sym e))
 
   pub at_cons : (a b : A) (l : List A) (k : ℕ) → get_elem? (a ∷ l) k ≡ some b → ((k ≡ 0) × (a ≡ b)) ⊎ ((i : ℕ) × (k ≡ i + 1) × (get_elem? l i ≡ some b))
   at_cons a b l zero e = inl (refl, some-injective a b e)
@@ -33,18 +30,6 @@ module _ {A : Type 0} where
   at_image f [] k a e = absurd (some-ne-none a (sym e))
   at_image f (x ∷ xs) zero a e = (x, refl, some-injective (f x) a e)
   at_image f (x ∷ xs) (suc k) a e = at_image f xs k a e
-
-  pub length_image : {B : Type 0} (f : B → A) (l : List B) → length (map f l) ≡ length l
-  length_image f [] = refl
-  length_image f (x ∷ xs) = ap suc (length_image f xs)
-
-  pub at_next : (x : A) (l : List A) (k : ℕ) (a : A) → get_elem? l k ≡ some a → get_elem? (x ∷ l) (k + 1) ≡ some a
-  at_next x l k a e = let same : suc k ≡ k + 1 = omega arith in subst (λ n. get_elem? (x ∷ l) n ≡ some a) same e
-
-  pub reads : (l : List A) (k : ℕ) (a d : A) → get_elem? l k ≡ some a → get_or l k d ≡ a
-  reads [] k a d e = absurd (some-ne-none a (sym e))
-  reads (x ∷ xs) zero a d e = some-injective x a e
-  reads (x ∷ xs) (suc k) a d e = reads xs k a d e
 
   -- a list that is all one
   pub all_one : (n i : ℕ) (a : A) → get_or (replicate n a) i a ≡ a

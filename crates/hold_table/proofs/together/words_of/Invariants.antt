@@ -1,5 +1,4 @@
-use Rattle.std.proofs.Common.{◌≡◌, ℕ, ◌-◌, ◌<◌, ◌≤◌, length, slice_index}
-use Rattle.drives.specs.declared.holds.TheConstants.{DRIVE_LIMIT}
+use Rattle.hold_table.proofs.Names.{◌≡◌, ℕ, ◌-◌, ◌<◌, ◌≤◌, length, slice_index, DRIVE_LIMIT}
 use Rattle.hold_table.proofs.together.words_of.Given as goal
 
 abbrev pub invariant-loop-drive : goal.invariant-loop-drive

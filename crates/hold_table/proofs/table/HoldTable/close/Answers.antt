@@ -1,6 +1,5 @@
-use Rattle.std.proofs.Common.{ℕ, List, get_or, ap, sym, subst, ◌∙◌}
 use Rattle.hold_table.specs.Closing.{IsClosing}
-use Rattle.hold_table.specs.Seats.{TableSeat}
+use Rattle.hold_table.proofs.Names.{ℕ, List, get_or, ap, sym, subst, ◌∙◌, TableSeat}
 use Rattle.hold_table.proofs.Ended.{ends}
 use Rattle.hold_table.proofs.table.HoldTable.close.Goals as goal
 

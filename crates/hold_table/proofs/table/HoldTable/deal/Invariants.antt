@@ -1,8 +1,4 @@
-use Rattle.std.proofs.Common.{◌≡◌, ◌+◌, ◌-◌, ◌≤◌, [], ◌∷◌}
-use Rattle.hold_table.specs.declared.table.TheConstants.{SEAT_LIMIT}
-use Rattle.drives.specs.Holding.{newcomer}
-use Rattle.hold_table.specs.Rule.{seated}
-use Rattle.hold_table.specs.Seats.{dealt}
+use Rattle.hold_table.proofs.Names.{◌≡◌, ◌+◌, ◌-◌, ◌≤◌, [], ◌∷◌, SEAT_LIMIT, newcomer, seated, dealt}
 use Rattle.hold_table.proofs.table.HoldTable.deal.Given as goal
 
 abbrev pub invariant-loop-dealt : goal.invariant-loop-dealt

@@ -1,6 +1,4 @@
-use Rattle.std.proofs.Common.{◌≡◌, ◌++◌, All}
-use Rattle.hold_table.specs.Keeping.{shown}
-use Rattle.hold_table.specs.Seats.{IsSeatAt}
+use Rattle.hold_table.proofs.Names.{◌≡◌, ◌++◌, All, shown, IsSeatAt}
 use Rattle.hold_table.proofs.table.HoldTable.gathered.Given as goal
 
 abbrev pub invariant-loop-next : goal.invariant-loop-next

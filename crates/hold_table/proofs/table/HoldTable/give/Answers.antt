@@ -1,8 +1,5 @@
 use Rattle.std.proofs.Common.{rules}
 use Rattle.hold_table.proofs.table.HoldTable.give.Goals as goal
 
-pub returns-clause-step : goal.returns-clause-step
-returns-clause-step c = search rules
-
-pub returns-clause-rule : goal.returns-clause-rule
-returns-clause-rule c = search rules
+pub returns : goal.returns
+returns c = record { step = search rules; rule = search rules }
