@@ -1,5 +1,4 @@
-use Rattle.std.proofs.Common.{◌≡◌, map, take}
-use Rattle.rmtd_args.specs.Drive.{plain_drive, split_of}
+use Rattle.rmtd_args.proofs.Words.{◌≡◌, map, take, plain_drive, split_of}
 use Rattle.rmtd_args.proofs.drive_argument.drives_of.Given as goal
 
 -- the drives of the words before the place

@@ -1,7 +1,5 @@
-use Rattle.std.proofs.Common.{◌≢◌, arith, subst}
-use Rattle.std.specs.List.{AllPairs}
-use Rattle.rmtd_args.specs.Drive.{plain_drive}
-use Rattle.rmtd_args.proofs.Places.{all_said, apart_no, apart_yet}
+use Rattle.rmtd_args.proofs.Words.{◌≢◌, ap, arith, subst, take_all, AllPairs, plain_drive}
+use Rattle.rmtd_args.proofs.Places.{said, apart_no, apart_yet}
 use Rattle.rmtd_args.proofs.drive_argument.named_again.Goals as goal
 
 pub returns-then-any_names : goal.returns-then-any_names
@@ -15,5 +13,5 @@ loop-place-preserved c =
 
 pub returns : goal.returns
 returns c =
-    let past = c.loop-place-test.false in
-    subst (λ ys. AllPairs (λ d e. d.device ≢ e.device) ys) (all_said c.args.arguments.now c.loop-place.place (omega (arith, past))) c.loop-place.invariant
+    let all = take_all c.loop-place.place c.args.arguments.now (omega (arith, c.loop-place-test.false)) in
+    subst (λ ys. AllPairs (λ d e. d.device ≢ e.device) ys) (ap said all) c.loop-place.invariant

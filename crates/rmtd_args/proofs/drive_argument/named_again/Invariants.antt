@@ -1,6 +1,4 @@
-use Rattle.std.proofs.Common.{◌≢◌, map, take}
-use Rattle.std.specs.List.{AllPairs}
-use Rattle.rmtd_args.specs.Drive.{split_of}
+use Rattle.rmtd_args.proofs.Words.{◌≢◌, map, take, AllPairs, split_of}
 use Rattle.rmtd_args.proofs.drive_argument.named_again.Given as goal
 
 -- no two words before the place name one device

@@ -1,5 +1,4 @@
-use Rattle.std.proofs.Common.{arith}
-use Rattle.std.proofs.lemmas.Grind.{common_steps}
+use Rattle.rmtd_args.proofs.Words.{arith, common_steps}
 use Rattle.rmtd_args.proofs.drive_argument.split.Goals as goal
 
 pub returns : goal.returns

@@ -1,7 +1,4 @@
-use Rattle.std.proofs.Common.{rules, codes, ap, map, List, ℕ, Bor, ◌∙◌}
-use Rattle.std.proofs.lemmas.Result.{IfOk-weaker}
-use Rattle.clap.specs.Words.{found_of}
-use Rattle.clap.proofs.WalkLemmas.{raw_values-rows}
+use Rattle.rmtd_args.proofs.Words.{rules, codes, ap, map, List, ℕ, Bor, ◌∙◌, IfOk-weaker, found_of, raw_values-rows}
 use Rattle.rmtd_args.proofs.rmtd_line.drive_arguments.Goals as goal
 
 pub returns-in-Some : goal.returns-in-Some

@@ -1,6 +1,4 @@
-use Rattle.std.proofs.Common.{subst}
-use Rattle.std.proofs.lemmas.Result.{IfOk-weaker}
-use Rattle.rmtd_args.specs.Rmtd.{IsShown}
+use Rattle.rmtd_args.proofs.Words.{subst, IfOk-weaker, IsShown}
 use Rattle.rmtd_args.proofs.rmtd_line.refusal.Goals as goal
 
 pub returns : goal.returns

@@ -1,6 +1,4 @@
-use Rattle.std.proofs.Common.{rules, codes, ◌∙◌}
-use Rattle.clap.specs.Words.{found_of}
-use Rattle.clap.proofs.WalkLemmas.{first_value-rows}
+use Rattle.rmtd_args.proofs.Words.{rules, codes, ◌∙◌, found_of, first_value-rows}
 use Rattle.rmtd_args.proofs.rmtd_line.stdio_of.Goals as goal
 
 pub returns-in-Some : goal.returns-in-Some

@@ -1,6 +1,4 @@
-use Rattle.std.proofs.Common.{◌≡◌, ap₂, subst, IfOk, ◌∙◌}
-use Rattle.std.proofs.lemmas.Result.{IfOk-weaker}
-use Rattle.clap.specs.Words.{app_of, with_rule}
+use Rattle.rmtd_args.proofs.Words.{◌≡◌, ap₂, subst, IfOk, ◌∙◌, IfOk-weaker, app_of, with_rule}
 use Rattle.rmtd_args.proofs.rmtd_line.with_option.Goals as goal
 
 pub returns-in-Ok : goal.returns-in-Ok

@@ -1,7 +1,4 @@
-use Rattle.std.proofs.Common.{ap₂, codes, ◌∙◌}
-use Rattle.std.proofs.lemmas.Result.{IfOk-weaker}
-use Rattle.clap.specs.Words.{new_app, with_rule}
-use Rattle.rmtd_args.specs.Rmtd.{flag_rule, with_version}
+use Rattle.rmtd_args.proofs.Words.{ap₂, codes, ◌∙◌, IfOk-weaker, new_app, with_rule, flag_rule, with_version}
 use Rattle.rmtd_args.proofs.rmtd_line.with_ways.Goals as goal
 
 pub returns : goal.returns
