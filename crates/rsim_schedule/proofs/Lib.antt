@@ -1,4 +1,3 @@
-pub mod Cutting
-pub mod Ended
+pub mod Words
 pub mod Played
 pub mod Reported

@@ -1,4 +1,4 @@
-use Rattle.std.proofs.Common.{rules}
+use Rattle.rsim_schedule.proofs.Words.{rules}
 use Rattle.rsim_schedule.proofs.making.print_failed.Goals as goal
 
 pub returns-in-Some : goal.returns-in-Some

@@ -1,5 +1,4 @@
-use Rattle.std.proofs.Common.{true}
-use Rattle.rsim_schedule.specs.Playing.{IsPlayed}
+use Rattle.rsim_schedule.proofs.Words.{true, IsPlayed}
 use Rattle.rsim_schedule.proofs.making.pump.Given as goal
 
 abbrev pub invariant-loop : goal.invariant-loop

@@ -1,6 +1,4 @@
-use Rattle.std.proofs.Common.{true}
-use Rattle.rsim_schedule.specs.Cut.{left_in}
-use Rattle.rsim_schedule.specs.Playing.{IsPlayed}
+use Rattle.rsim_schedule.proofs.Words.{true, left_in, IsPlayed}
 use Rattle.rsim_schedule.proofs.player.play_all.Given as goal
 
 abbrev pub invariant-loop-text : goal.invariant-loop-text

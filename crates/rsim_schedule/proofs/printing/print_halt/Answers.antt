@@ -1,4 +1,4 @@
-use Rattle.std.proofs.Common.{rules}
+use Rattle.rsim_schedule.proofs.Words.{rules}
 use Rattle.rsim_schedule.proofs.printing.print_halt.Goals as goal
 
 pub returns-in-StreamFailed : goal.returns-in-StreamFailed

@@ -1,7 +1,4 @@
-use Rattle.std.proofs.Common.{◌++◌, ◌∙◌, ap, arith, map}
-use Rattle.std.specs.List.{flat_map}
-use Rattle.rsim_schedule.specs.Drives.{plain_line}
-use Rattle.rsim_schedule.specs.Report.{reel_line}
+use Rattle.rsim_schedule.proofs.Words.{◌++◌, ◌∙◌, ap, arith, map, flat_map, plain_line, reel_line}
 use Rattle.rsim_schedule.proofs.Reported.{shown_more}
 use Rattle.rsim_schedule.proofs.report.push_all_reels.Goals as goal
 

@@ -1,7 +1,4 @@
-use Rattle.std.proofs.Common.{◌≡◌, ◌++◌, map, take}
-use Rattle.std.specs.List.{flat_map}
-use Rattle.rsim_schedule.specs.Drives.{plain_line}
-use Rattle.rsim_schedule.specs.Report.{reel_line}
+use Rattle.rsim_schedule.proofs.Words.{◌≡◌, ◌++◌, map, take, flat_map, plain_line, reel_line}
 use Rattle.rsim_schedule.proofs.report.push_all_reels.Given as goal
 
 abbrev pub invariant-loop-drive : goal.invariant-loop-drive

@@ -1,7 +1,4 @@
-use Rattle.std.proofs.Common.{◌<◌, sym, ap, subst, ◌∙◌, length}
-use Rattle.std.specs.Prelude.{slice_get}
-use Rattle.tape_world.specs.Telling.{plain_count}
-use Rattle.rsim_schedule.specs.Report.{count_line}
+use Rattle.rsim_schedule.proofs.Words.{◌<◌, sym, ap, subst, ◌∙◌, length, slice_get, plain_count, count_line}
 use Rattle.rsim_schedule.proofs.Reported.{told_more, count_there}
 use Rattle.rsim_schedule.proofs.report.push_counts.Goals.{in-Some+in_ok-push_count, in_default}
 use Rattle.rsim_schedule.proofs.report.push_counts.Goals as goal

@@ -1,6 +1,4 @@
-use Rattle.std.proofs.Common.{◌≡◌, ◌++◌, take}
-use Rattle.std.specs.List.{flat_map}
-use Rattle.rsim_schedule.specs.Report.{count_line}
+use Rattle.rsim_schedule.proofs.Words.{◌≡◌, ◌++◌, take, flat_map, count_line}
 use Rattle.rsim_schedule.proofs.report.push_counts.Given as goal
 
 abbrev pub invariant-loop-place : goal.invariant-loop-place

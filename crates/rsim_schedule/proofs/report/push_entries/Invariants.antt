@@ -1,6 +1,4 @@
-use Rattle.std.proofs.Common.{◌≡◌, ◌++◌, take}
-use Rattle.std.specs.List.{flat_map}
-use Rattle.rsim_schedule.specs.Report.{entry_text, entries_of_reel}
+use Rattle.rsim_schedule.proofs.Words.{◌≡◌, ◌++◌, take, flat_map, entry_text, entries_of_reel}
 use Rattle.rsim_schedule.proofs.report.push_entries.Given as goal
 
 abbrev pub invariant-loop-place : goal.invariant-loop-place

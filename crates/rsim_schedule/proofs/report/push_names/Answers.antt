@@ -1,4 +1,4 @@
-use Rattle.std.proofs.Common.{◌++◌, ◌∙◌, ap, arith, codes}
+use Rattle.rsim_schedule.proofs.Words.{◌++◌, ◌∙◌, ap, arith, codes}
 use Rattle.rsim_schedule.proofs.Reported.{shown_more}
 use Rattle.rsim_schedule.proofs.report.push_names.Goals as goal
 

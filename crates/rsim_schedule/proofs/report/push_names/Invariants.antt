@@ -1,6 +1,4 @@
-use Rattle.std.proofs.Common.{◌≡◌, ◌++◌, take}
-use Rattle.drives.specs.TapeLibrary.{names_of}
-use Rattle.rsim_schedule.specs.Report.{names_text}
+use Rattle.rsim_schedule.proofs.Words.{◌≡◌, ◌++◌, take, names_of, names_text}
 use Rattle.rsim_schedule.proofs.report.push_names.Given as goal
 
 abbrev pub invariant-loop-reel : goal.invariant-loop-reel

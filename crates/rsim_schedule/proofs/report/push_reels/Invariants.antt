@@ -1,6 +1,4 @@
-use Rattle.std.proofs.Common.{◌≡◌, ◌++◌, map, take}
-use Rattle.std.specs.List.{flat_map}
-use Rattle.rsim_schedule.specs.Report.{reel_line}
+use Rattle.rsim_schedule.proofs.Words.{◌≡◌, ◌++◌, map, take, flat_map, reel_line}
 use Rattle.rsim_schedule.proofs.report.push_reels.Given as goal
 
 abbrev pub invariant-loop-reel : goal.invariant-loop-reel

@@ -1,6 +1,4 @@
-use Rattle.std.proofs.Common.{◌∙◌, arith}
-use Rattle.rsim_schedule.specs.Drives.{plain_line}
-use Rattle.rsim_schedule.specs.Report.{stack_line}
+use Rattle.rsim_schedule.proofs.Words.{◌∙◌, arith, plain_line, stack_line}
 use Rattle.rsim_schedule.proofs.Reported.{shown_more}
 use Rattle.rsim_schedule.proofs.report.push_stacks.Goals as goal
 

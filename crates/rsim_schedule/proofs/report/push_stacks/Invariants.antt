@@ -1,7 +1,4 @@
-use Rattle.std.proofs.Common.{◌≡◌, ◌++◌, map, take}
-use Rattle.std.specs.List.{flat_map}
-use Rattle.rsim_schedule.specs.Drives.{plain_line}
-use Rattle.rsim_schedule.specs.Report.{stack_line}
+use Rattle.rsim_schedule.proofs.Words.{◌≡◌, ◌++◌, map, take, flat_map, plain_line, stack_line}
 use Rattle.rsim_schedule.proofs.report.push_stacks.Given as goal
 
 abbrev pub invariant-loop-drive : goal.invariant-loop-drive

@@ -1,7 +1,4 @@
-use Rattle.std.proofs.Common.{◌≤◌, length, map}
-use Rattle.world_model.specs.First.{AreGoodDrives}
-use Rattle.rsim_schedule.specs.Cut.{left_in}
-use Rattle.rsim_schedule.specs.Drives.{plain_line}
+use Rattle.rsim_schedule.proofs.Words.{◌≤◌, length, map, AreGoodDrives, left_in, plain_line}
 use Rattle.rsim_schedule.proofs.setup.add_drives.Given as goal
 
 abbrev pub invariant-loop-text : goal.invariant-loop-text

@@ -1,6 +1,5 @@
-use Rattle.std.proofs.Common.{◌≡◌, map, take}
+use Rattle.rsim_schedule.proofs.Words.{◌≡◌, map, take, plain_line}
 use Rattle.tape_world.specs.Making.{plain_drive_spec}
-use Rattle.rsim_schedule.specs.Drives.{plain_line}
 use Rattle.rsim_schedule.proofs.setup.specs_of.Given as goal
 
 abbrev pub invariant-loop-drive : goal.invariant-loop-drive

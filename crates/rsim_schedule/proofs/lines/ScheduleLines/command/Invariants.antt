@@ -1,5 +1,4 @@
-use Rattle.std.proofs.Common.{◌≤◌}
-use Rattle.rsim_schedule.specs.Cut.{left_in}
+use Rattle.rsim_schedule.proofs.Words.{◌≤◌, left_in}
 use Rattle.rsim_schedule.proofs.lines.ScheduleLines.command.Given as goal
 
 abbrev pub invariant-loop-line : goal.invariant-loop-line

@@ -1,4 +1,4 @@
-use Rattle.rsim_schedule.specs.Cut.{left_in}
+use Rattle.rsim_schedule.proofs.Words.{left_in}
 use Rattle.rsim_schedule.proofs.names.Names.new.Given as goal
 
 abbrev pub decreases-loop-field : goal.decreases-loop-field
