@@ -8,7 +8,7 @@ FEED := crates/bench_feed/out/bench_feed
 MINUTES := out/minutes.txt
 RATIOS := out/bench.tsv
 PROGRAMS := rmtd rdump rsim
-TOOL_TESTS := $(addprefix tests.tools.,test_further test_promises test_counts test_bench)
+TOOL_TESTS := $(addprefix tests.tools.,test_further test_promises test_counts test_bench test_imports)
 
 PREFIX ?= /usr/local
 DESTDIR ?=
@@ -38,6 +38,7 @@ test: kit ## the gate: each proof from nothing, each wrong body that has to be r
 	python3 -m tests.tools.style
 	python3 -m tests.tools.promises
 	python3 -m tests.tools.homes
+	python3 -m tests.tools.imports
 	python3 -m tests.tools.examples
 	python3 -m tests.tools.messages
 	python3 -m tests.tools.links
