@@ -1,3 +1,4 @@
+pub mod Basics
 pub mod Words
 pub mod Printed
 pub mod Talking
@@ -6,7 +7,6 @@ pub mod Heard
 pub mod Calls
 pub mod Operating
 pub mod Reading
-pub mod DriveCalls
 pub mod Marks
 pub mod Keeping
 pub mod Looking

@@ -1,7 +1,7 @@
 -- Texts that are printed one after the other, and the lines of a dump.
 use Rattle.std.specs.Io.KnownBytes.{Appends}
 use Rattle.std.proofs.KnownBytes.{Appends-nil, Appends-trans}
-use Rattle.rdump_net.proofs.Words.{◌≡◌, ◌+◌, ℕ, List, [], ◌++◌, Bool, true, false, inl, inr, Option, Some, None, refl, sym, ap, subst, ◌∙◌, min, take, drop, length, append-nil, append_assoc, arith, take-append-add, drop-append_seam, take-append-le, take_min, ExitStatus, Counting, HasRisen, VolumeCount, Standing, checkpoint_of, AttemptFault, IsPrinted, DumpLines, IsPrefixOf, IsConcluded, IsConclusion, IsDumped, IsFinish, IsLast, IsRound, conclusion_status, count_lines, failure_lines, question_line, Conclusion, none, counted, failed, asked}
+use Rattle.rdump_net.proofs.Words.{◌≡◌, ◌+◌, ℕ, List, [], ◌++◌, Bool, true, false, Option, Some, None, refl, sym, ap, subst, ◌∙◌, min, take, drop, length, append-nil, append_assoc, arith, take-append-add, drop-append_seam, take-append-le, take_min, Counting, HasRisen, VolumeCount, Standing, checkpoint_of, AttemptFault, IsPrinted, DumpLines, IsPrefixOf, IsConcluded, IsFinish, IsRound, count_lines, failure_lines, question_line, Conclusion, none, counted, failed, asked}
 use Rattle.rdump_net.specs.declared.conclusion.Conclusion.TheVariants as ends
 
 module _ {W : Type 0} (contents : W → Option (List ℕ)) where
@@ -49,31 +49,17 @@ lines_since old new n e (more, is) =
 pub lines_failed : (counts : List VolumeCount) (fault : AttemptFault) → DumpLines counts counts (failure_lines (checkpoint_of counts).0 fault)
 lines_failed counts fault = failed fault none
 
-pub lines_asked : (counts : List VolumeCount) → DumpLines counts counts question_line
-lines_asked counts = asked none
-
-pub lines_same : (old new : List VolumeCount) → new ≡ old → DumpLines old new []
-lines_same old new e = subst (λ n. DumpLines old n []) (sym e) none
-
--- the status that goes with an end
-last_of : (whole : Bool) (at : Standing) (last : List ℕ) (end : Conclusion) → IsConclusion whole at last end → IsLast whole at last (conclusion_status end)
-last_of true at last ends.Complete h = inl (h.0, h.1, refl)
-last_of true at last ends.Abandoned h = inr (h.0, h.1, refl)
-last_of false at last ends.PrintFailed h = refl
-last_of whole at last end h = absurd h
-
-module _ {W : Type 0} (contents : W → Option (List ℕ)) where
+module _ {W : Type 0} {contents : W → Option (List ℕ)} where
   -- a part that was cut short
-  pub cut_short : (first : List VolumeCount) (at : Standing) (out out' : Counting W) (text : List ℕ) → DumpLines first at.counts text
-      → IsPrinted contents text out out' false → IsConcluded contents first at out out' ends.PrintFailed
-  cut_short first at out out' text lines printed =
-      let all = subst (λ t. IsPrinted contents t out out' false) (sym (append-nil text)) printed in
-      record { text = text; last = []; whole = false; lines = lines; printed = all; ends = tt }
+  pub cut_short : {first : List VolumeCount} {at : Standing} {out out' : Counting W} (text : List ℕ) → DumpLines first at.counts text → IsPrinted contents text out out' false
+      → IsConcluded contents first at out out' ends.PrintFailed
+  cut_short text lines printed = record { text = text; last = []; whole = false; lines = lines; printed = rw append-nil printed; ends = tt }
 
   -- the last line alone
-  pub last_alone : (at : Standing) (out out' : Counting W) (end : Conclusion) → IsFinish contents at out out' end → IsConcluded contents at.counts at out out' end
-  last_alone at out out' end h = record { text = []; last = h.0; whole = h.1; lines = none; printed = h.2; ends = h.3 }
+  pub last_alone : {at : Standing} {out out' : Counting W} {end : Conclusion} → IsFinish contents at out out' end → IsConcluded contents at.counts at out out' end
+  last_alone h = record { text = []; last = h.0; whole = h.1; lines = none; printed = h.2; ends = h.3 }
 
+module _ {W : Type 0} (contents : W → Option (List ℕ)) where
   -- a part, and then another
   pub round_after : (first : List VolumeCount) (counts : List VolumeCount) (at : Standing) (a b c : Counting W) (text : List ℕ) (result : Option Conclusion)
       → DumpLines first counts text → IsPrinted contents text a b true → IsRound contents counts at b c result → IsRound contents first at a c result
@@ -84,13 +70,6 @@ module _ {W : Type 0} (contents : W → Option (List ℕ)) where
     last = h.last;
     whole = h.whole;
     lines = lines_both first counts text lines at.counts h.text h.lines;
-    printed = subst (λ t. IsPrinted contents t a c h.whole) (sym (append_assoc text h.text h.last)) (printed_both contents text (h.text ++ h.last) a b c h.whole printed h.printed);
+    printed = rw append_assoc (printed_both contents text (h.text ++ h.last) a b c h.whole printed h.printed);
     ends = h.ends;
   }
-
-  -- what a dump prints, with its status
-  pub dumped_so : (first : List VolumeCount) (at : Standing) (out out' : Counting W) (end : Conclusion) (status : ExitStatus) → status ≡ conclusion_status end
-      → IsConcluded contents first at out out' end → IsDumped contents first at out out' status
-  dumped_so first at out out' end status e h =
-      let known = subst (IsLast h.whole at h.last) (sym e) (last_of h.whole at h.last end h.ends) in
-      record { text = h.text; last = h.last; whole = h.whole; lines = h.lines; printed = h.printed; ends = known }

@@ -1,13 +1,12 @@
 -- What a client does over a peer, put together.
-use Rattle.rdump_net.proofs.Words.{◌≡◌, ◌≢◌, map, ℕ, List, [], ◌∷◌, ◌++◌, Bool, true, false, Result, Ok, refl, sym, ap, subst, ◌∙◌, append-nil, append_assoc, ◌<◌, ◌≤◌, length, take, arith, length-take, Standing, AnsweredAt, ClientHeld, HasFed, NextRequestAt, AttemptFault, StartFault, Answer, Stage, ToSend, AreBytesSent, Logs, given, Passed, Given, Sent, Ended, FromNone, TalkStep, Talks, TalksAlone, TalksOver, starts, stays, asks, has_none, hears, ends, answers, one_more}
+use Rattle.rdump_net.proofs.Words.{◌≡◌, ◌≢◌, map, ℕ, zero, suc, List, [], ◌∷◌, ◌++◌, Bool, true, Result, Ok, refl, sym, subst, append-nil, append_assoc, ◌<◌, ◌≤◌, length, take, arith, Standing, AnsweredAt, ClientHeld, HasFed, NextRequestAt, AttemptFault, StartFault, Answer, Stage, Logs, given, Passed, Given, Ended, FromNone, TalkStep, Talks, TalksAlone, TalksOver, starts, stays, asks, has_none, hears, ends, answers, one_more, alone, both}
 use Rattle.rdump_net.specs.Talk.Talks.{none}
 
--- a request that is told by all blocks of which more is told
+-- what holds for each payload of `told` holds for each of `less`, if these are payloads of `told` too
 asked_weaker : (told less : List (List ℕ) → Type 0) → ((payload : List (List ℕ)) → less payload → told payload)
     → (stage : Stage) (old : Standing) (capacity : ℕ) (before : List ℕ) (result : Result Bool AttemptFault) (now : List ℕ) (new : Standing)
     → NextRequestAt stage told old capacity before result now new → NextRequestAt stage less old capacity before result now new
-asked_weaker told less f (ToSend step) old capacity before (Ok true) now new h = (h.0, (λ payload t. h.1.0 payload (f payload t), h.1.1), h.2, h.3, h.4)
-asked_weaker told less f stage old capacity before result now new h = h
+asked_weaker told less f stage old capacity before result now new h = grind arith
 
 step_weaker : {told less : List (List ℕ) → Type 0} → ((payload : List (List ℕ)) → less payload → told payload)
     → {allows wider : Standing → Type 0} → ((at : Standing) → allows at → wider at)
@@ -34,34 +33,17 @@ joined {told} {allows} {a} {b} {fa} {fb} {one} first none = subst (λ passed. Ta
 joined {told} {allows} {a} {b} {fa} {fb} {one} first {c = c} {fc = fc} (one_more {passed = passed} {more = more} before step) =
     subst (λ all. Talks told allows a fa all c fc) (append_assoc one passed more) (one_more (joined first before) step)
 
--- what is allowed nowhere is allowed only where this is
-never : (allows : Standing → Type 0) (at : Standing) → FromNone at → allows at
-never allows at h = absurd h
-
--- one call of the client, with what passed in it
-pub record IsCalled {B P : Type 0} (told : List (List ℕ) → Type 0) (allows : Standing → Type 0) (tells : P → List Passed → Type 0) (c c' : ClientHeld B) (p p' : P) (fed : List ℕ) : Type 0 where
-  pub passed : List Passed
-  pub later : List ℕ
-  pub step : TalkStep told allows c.at fed passed c'.at later
-  pub keeps : HasFed c' later
-  pub logs : Logs tells p p' passed
-
--- nothing passes where a peer is left alone
-pub alone : {P : Type 0} (tells : P → List Passed → Type 0) (p : P) → Logs tells p p []
-alone tells p log h = subst (tells p) (sym (append-nil log)) h
-
 -- the source is the one that there was
 pub kept_source : {B : Type 0} (holds : B → List (List ℕ) → Type 0) {x y : B} → y ≡ x → (payload : List (List ℕ)) → holds x payload → holds y payload
 kept_source holds e payload h = subst (λ s. holds s payload) (sym e) h
 
 module _ {B P : Type 0} {holds : B → List (List ℕ) → Type 0} {allows : Standing → Type 0} {tells : P → List Passed → Type 0} where
-  pub one_call : {c c' : ClientHeld B} {p p' : P} → ((payload : List (List ℕ)) → holds c.source payload → holds c'.source payload)
-      → ((fed : List ℕ) → HasFed c fed → IsCalled (holds c.source) allows tells c c' p p' fed) → TalksOver holds allows tells c c' p p'
-  one_call same call = record {
+  -- one call of the client, with what passed in it
+  pub one_call : {c c' : ClientHeld B} {p p' : P} {passed : List Passed} → ((payload : List (List ℕ)) → holds c.source payload → holds c'.source payload) → Logs tells p p' passed
+      → ((fed : List ℕ) → HasFed c fed → (later : List ℕ) × TalkStep (holds c.source) allows c.at fed passed c'.at later × HasFed c' later) → TalksOver holds allows tells c c' p p'
+  one_call {passed = passed} same logs call = record {
     same = same;
-    talked = λ fed h.
-        let one = call fed h in
-        record { passed = one.passed; later = one.later; talks = one_more none one.step; keeps = one.keeps; logs = one.logs };
+    talked = λ fed h. let one = call fed h in record { passed = passed; later = one.0; talks = one_more none one.1; keeps = one.2; logs = logs };
   }
 
   pub followed : {c d e : ClientHeld B} {p q r : P} → TalksOver holds allows tells c d p q → TalksOver holds allows tells d e q r → TalksOver holds allows tells c e p r
@@ -75,16 +57,13 @@ module _ {B P : Type 0} {holds : B → List (List ℕ) → Type 0} {allows : Sta
           later = two.later;
           talks = joined one.talks (talks_weaker a.same (λ at h. h) two.talks);
           keeps = two.keeps;
-          logs = λ log t. subst (tells r) (append_assoc log one.passed two.passed) (two.logs (log ++ one.passed) (one.logs log t));
+          logs = both tells one.logs two.logs;
         };
   }
 
   -- a call of the client while the peer is left alone
   pub by_itself : {c c' : ClientHeld B} {p : P} → TalksAlone holds c c' → TalksOver holds allows tells c c' p p
-  by_itself {p = p} call = one_call call.same
-      (λ fed h.
-      let one = call.talked fed h in
-      record { passed = []; later = one.0; step = step_weaker (λ payload h. h) (never allows) one.1; keeps = one.2; logs = alone tells p })
+  by_itself {p = p} call = one_call call.same (alone tells p) (λ fed h. let one = call.talked fed h in (one.0, step_weaker (λ payload h. h) (λ at h. absurd h) one.1, one.2))
 
   -- the connection is ended
   pub hung_up : {c : ClientHeld B} {p q : P} → Logs tells p q [] → TalksOver holds allows tells c c p q
@@ -102,7 +81,7 @@ module _ {B P : Type 0} {holds : B → List (List ℕ) → Type 0} {allows : Sta
     same = h.same;
     talked = λ fed k.
         let one = h.talked fed k in
-        record { passed = one.passed; later = one.later; talks = talks_weaker (λ payload t. t) (never allows) one.talks; keeps = one.keeps; logs = one.logs };
+        record { passed = one.passed; later = one.later; talks = talks_weaker (λ payload t. t) (λ at h. absurd h) one.talks; keeps = one.keeps; logs = one.logs };
   }
 
 module _ {B : Type 0} {holds : B → List (List ℕ) → Type 0} where
@@ -113,23 +92,12 @@ module _ {B : Type 0} {holds : B → List (List ℕ) → Type 0} where
     talked = λ old k. (old, answers answer result h, fed old k);
   }
 
--- into room that there is none is given at the end, and else what is given
-into_room : (room : List ℕ) → 0 < length room → given room (take 0 room) ≡ Ended ∷ []
-into_room [] some = absurd (omega (arith, some))
-into_room (r ∷ room) some = refl
-
-some_bytes : (r : ℕ) (room bytes : List ℕ) → 0 < length bytes → given (r ∷ room) bytes ≡ map Given bytes
-some_bytes r room [] some = absurd (omega (arith, some))
-some_bytes r room (b ∷ bytes) some = refl
-
+-- a read into some room gives the bytes that came, or if none came, the end
 pub some_given : (room : List ℕ) (n : ℕ) → n ≤ length room → n ≢ 0 → given room (take n room) ≡ map Given (take n room)
 some_given [] n within some = absurd (some (omega (arith, within)))
-some_given (r ∷ room) n within some = some_bytes r room (take n (r ∷ room)) (omega (arith, length-take n (r ∷ room)))
+some_given (r ∷ room) zero within some = absurd (some refl)
+some_given (r ∷ room) (suc n) within some = refl
 
 pub none_given : (room : List ℕ) (n : ℕ) → 0 < length room → n ≡ 0 → given room (take n room) ≡ Ended ∷ []
-none_given room n some e = ap (λ m. given room (take m room)) e ∙ into_room room some
-
--- something was sent, all of the bytes or none
-pub some_sent : (bytes : List ℕ) (whole : Bool) → (passed : List Passed) × AreBytesSent bytes whole passed
-some_sent bytes true = (map Sent bytes, refl)
-some_sent bytes false = (map Sent (take 0 bytes) ++ Ended ∷ [], (0, refl))
+none_given [] n some e = absurd (omega (arith, some))
+none_given (r ∷ room) n some e = rw e refl

@@ -1,37 +1,36 @@
 -- The names that these proofs use, from one place.
-pub use Rattle.std.proofs.Common.{Bool, Err, Global, List, None, Ok, Option, Result, Some, Vec, [], ap, append-nil, append_assoc, arith, codes, decimal, drop, false, get_or, if◌then◌else◌, inl, inr, length, length-append, length-take, map, min, nat_eq, nat_lt, refl, rules, subst, sym, take, true, ℕ, ◌&&◌, ◌++◌, ◌+◌, ◌-◌, ◌<◌, ◌^◌, ◌∙◌, ◌∷◌, ◌≡◌, ◌≢◌, ◌≤◌, ◌⊎◌}
+pub use Rattle.std.proofs.Common.{zero, suc, Bool, Err, Global, List, None, Ok, Option, Result, Some, Vec, [], ap, append-nil, append_assoc, arith, codes, decimal, drop, false, if◌then◌else◌, inl, inr, length, length-append, length-take, map, min, nat_eq, refl, rules, subst, sym, take, true, ℕ, ◌&&◌, ◌++◌, ◌+◌, ◌-◌, ◌<◌, ◌^◌, ◌∙◌, ◌∷◌, ◌≡◌, ◌≢◌, ◌≤◌, ◌⊎◌}
 pub use Rattle.std.proofs.Math.Seq.{drop-append_seam, take-add, take-append-add}
-pub use Rattle.std.proofs.lemmas.List.{drop_all, length-drop, map-append, take-append-drop, take-append-le, take_all, take_min, take_more}
+pub use Rattle.std.proofs.lemmas.List.{take_rest, drop_all, length-drop, map-append, take-append-drop, take-append-le, take_all, take_min, take_more}
 pub use Rattle.std.specs.Vec.{vec_capacity, vec_len}
 pub use Rattle.dump_client.specs.Client.{ClientHeld, HasFed, NextRequestAt, unanswered}
-pub use Rattle.dump_client.specs.Standing.{AnsweredAt, CutAt, IsOver, Standing, StartedAt, VolumeCount, checkpoint_of, stage_after, standing}
+pub use Rattle.dump_client.specs.Standing.{AnsweredAt, CutAt, Standing, StartedAt, VolumeCount, checkpoint_of}
 pub use Rattle.dump_client.specs.declared.fault.AttemptFault.{AttemptFault}
-pub use Rattle.dump_client.specs.declared.fault.AttemptFault.TheVariants.{CountedReel}
 pub use Rattle.dump_client.specs.declared.fault.StartFault.{StartFault}
 pub use Rattle.dump_client.specs.declared.stage.Answer.{Answer}
 pub use Rattle.dump_client.specs.declared.stage.Progress.{Progress}
 pub use Rattle.dump_client.specs.declared.stage.Stage.{Stage}
-pub use Rattle.dump_client.specs.declared.stage.Stage.TheVariants.{Asking, Finished, Ready, ToSend, Waiting}
 pub use Rattle.exit_status.specs.declared.status.ExitStatus.{ExitStatus}
+pub use Rattle.rdump_net.proofs.Basics.{alone, both, is_fault}
 pub use Rattle.rdump_net.specs.Booking.{EntersOn}
-pub use Rattle.rdump_net.specs.Call.{Brings, IsCalled, IsFront, IsNoReply, IsPeerCall, IsReplyAwaited, IsReplyHeard, IsTaken, wanted_by}
+pub use Rattle.rdump_net.specs.Call.{IsCalled, IsFront, IsPeerCall, IsReplyAwaited, IsReplyHeard, IsTaken, wanted_by}
 pub use Rattle.rdump_net.specs.Calls.{CallsFollow, Extends, Finishes, Stops, is_done}
 pub use Rattle.rdump_net.specs.Calls.CallsFollow.{begins}
 pub use Rattle.rdump_net.specs.DriveCalls.{IsOperationCalled, IsRecordCalled, read_fault}
 pub use Rattle.rdump_net.specs.Ends.{SinkEnds, SinkKind, copy_ends, copy_kind, sink_ends, sink_kind, stream_ends, stream_kind}
-pub use Rattle.rdump_net.specs.Keeping.{HasKept, IsDumpKept, IsKept, IsKeptConclusion, IsKeptUp, IsUnkept, KeptDump, KeptEnds, KeptKind, PutsOn, kept_ends, kept_kind, plain_checkpoint, unkept_line}
+pub use Rattle.rdump_net.specs.Keeping.{HasKept, HasKeptTo, IsDumpKept, IsKept, IsKeptConclusion, IsKeptUp, IsUnkept, KeptDump, KeptEnds, KeptKind, PutsOn, kept_ends, kept_kind, plain_checkpoint, unkept_line}
 pub use Rattle.rdump_net.specs.KeptReply.{plain_kept, plain_result}
-pub use Rattle.rdump_net.specs.Lines.{DumpLines, IsConcluded, IsConclusion, IsDumped, IsFinish, IsLast, IsPrefixOf, IsRound, conclusion_status, count_line, count_lines, failure_lines, fault_text, question_line}
+pub use Rattle.rdump_net.specs.Lines.{DumpLines, IsConcluded, IsConclusion, IsDumped, IsFinish, IsPrefixOf, IsRound, conclusion_status, count_line, count_lines, failure_lines, question_line}
 pub use Rattle.rdump_net.specs.Lines.DumpLines.{asked, counted, failed, none}
-pub use Rattle.rdump_net.specs.Look.{Fails, Finding, Goes, IsAnsweredAt, IsLook, IsLookPart, IsReadAt, LookStage, after_read, after_space, plain_front, request_at, stage_from, stage_then}
+pub use Rattle.rdump_net.specs.Look.{Fails, Finding, Goes, IsAnsweredAt, IsLook, IsLookPart, IsReadAt, LookStage, after_read, plain_front, request_at, stage_from, stage_then}
 pub use Rattle.rdump_net.specs.Look.Finding.{Front, Refusal}
 pub use Rattle.rdump_net.specs.Look.LookStage.{Closed, Closing, Opening, Reading, Rewinding, RewindingAgain, Spacing}
 pub use Rattle.rdump_net.specs.Look.PlainFront.{Empty, Record}
-pub use Rattle.rdump_net.specs.Operation.{IsOperated, IsOperationReply, IsReplyPrinted, mode_for, printed_line, reply_line, status_after}
-pub use Rattle.rdump_net.specs.Peer.{AreBytesSent, Logs, connected, given}
-pub use Rattle.rdump_net.specs.Reading.{AreRecords, AreRecordsGiven, Breaks, CallSteps, Concludes, EndsAtRefusal, GoesOnBy, HasConcluded, HasReadVolume, HasReply, HasSoughtMark, IsAnswered, IsAtLabel, IsBeginningOf, IsBegun, IsConcludedAtMark, IsDone, IsDoneBy, IsDoneNext, IsEndKnown, IsEnding, IsGiven, IsMarkFound, IsNamed, IsRead, IsRecordRead, IsTakenAway, IsTakenAwayOnlyIfKept, IsUnmarked, IsVolumeCopied, IsVolumeRead, IsVolumeReading, OnlyTheLastIsEmpty, ReadEnds, ReadFails, Reads, ReadsVolume, after_for_count, after_for_records, file_bytes, is_taken, is_whole, label_text, next_again, next_back, next_close, next_end, next_forward, next_mark, next_of, next_over, next_read, records_of, text_of}
+pub use Rattle.rdump_net.specs.Operation.{IsOperated, IsOperationReply, IsReplyPrinted, mode_for}
+pub use Rattle.rdump_net.specs.Peer.{AreBytesSent, Logs, given}
+pub use Rattle.rdump_net.specs.Reading.{AreRecords, AreRecordsGiven, Breaks, CallSteps, Concludes, EndsAtRefusal, GoesOnBy, HasConcluded, HasReadVolume, HasReply, HasSoughtMark, IsAtLabel, IsBeginningOf, IsBegun, IsDone, IsDoneBy, IsDoneNext, IsEndKnown, IsEnding, IsGiven, IsMarkFound, IsNamed, IsRead, IsTakenAway, IsTakenAwayOnlyIfKept, IsUnmarked, IsVolumeCopied, IsVolumeReading, OnlyTheLastIsEmpty, ReadEnds, ReadFails, Reads, ReadsVolume, after_for_count, after_for_records, file_bytes, is_taken, is_whole, label_text, next_again, next_back, next_close, next_end, next_forward, next_mark, next_of, next_over, next_read, records_of}
 pub use Rattle.rdump_net.specs.Reading.IsEnding.{refused, unasked}
-pub use Rattle.rdump_net.specs.Sink.{SinkCall, Takes, blocks_from, calls_of, goes_on, has_accepted}
+pub use Rattle.rdump_net.specs.Sink.{SinkCall, Takes, blocks_from, calls_of}
 pub use Rattle.rdump_net.specs.Sink.SinkCall.{Block, Complete, Label, Mark}
 pub use Rattle.rdump_net.specs.Sink.Takes.{accepted, nothing, stopped}
 pub use Rattle.rdump_net.specs.Talk.{FromAny, FromNone, FromThis, GoesOn, TalkStep, Talks, TalksAlone, TalksOver}
@@ -49,15 +48,15 @@ pub use Rattle.rdump_net.specs.declared.peer.Passed.TheVariants.{Connected, Ende
 pub use Rattle.rdump_net.specs.declared.volume.AfterVolume.{AfterVolume}
 pub use Rattle.rdump_net.specs.declared.volume.AfterVolume.TheVariants.{Check, Offline, Stay}
 pub use Rattle.rmt_wire.specs.Counted.{Counting, HasRisen}
-pub use Rattle.rmt_wire.specs.Lent.{plain_reply, plain_request, plain_wanted}
+pub use Rattle.rmt_wire.specs.Lent.{plain_request, plain_wanted}
 pub use Rattle.rmt_wire.specs.Print.{IsPrinted}
 pub use Rattle.rmt_wire.specs.Reply.{PlainReply, SpellsReply, Wanted}
 pub use Rattle.rmt_wire.specs.Reply.PlainReply.{Data, Done, Error}
 pub use Rattle.rmt_wire.specs.Reply.Wanted.{DataUpTo, Number}
-pub use Rattle.rmt_wire.specs.ReplyParts.{ReplyHasNoSpelling, ReplyParsesAs}
-pub use Rattle.rmt_wire.specs.ReplyReader.{ReplyHeld, ReplyIsNext, ReplyUnread, plain_reply_result, reply_taken_of}
-pub use Rattle.rmt_wire.specs.Request.{PlainRequest, request_text}
-pub use Rattle.rmt_wire.specs.Request.PlainRequest.{Close, Op, Open, Read, Write, WriteDropped}
+pub use Rattle.rmt_wire.specs.ReplyParts.{ReplyParsesAs}
+pub use Rattle.rmt_wire.specs.ReplyReader.{ReplyHeld, ReplyUnread, reply_taken_of}
+pub use Rattle.rmt_wire.specs.Request.{PlainRequest}
+pub use Rattle.rmt_wire.specs.Request.PlainRequest.{Close, Op, Open, Read}
 pub use Rattle.rmt_wire.specs.declared.errno.TheConstants.{EIO}
 pub use Rattle.rmt_wire.specs.declared.limits.TheConstants.{NUMBER_LIMIT, READER_LIMIT, RECORD_LIMIT}
-pub use Rattle.rmt_wire.specs.declared.mtio.TheConstants.{MTBSR, MTFSF, MTFSR, MTOFFL, MTREW, MTWEOF}
+pub use Rattle.rmt_wire.specs.declared.mtio.TheConstants.{MTBSR, MTFSF, MTOFFL}

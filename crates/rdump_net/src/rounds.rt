@@ -21,7 +21,7 @@ use rmt_wire::{Counted, print_text};
 use std::io::{Read, Write};
 
 /// Does the one thing that the client waits for. Returns how the dump ended, if it did.
-#[tactic(auto, using(crate::proofs::Talking::nothing_said, crate::proofs::Talking::by_itself))]
+#[tactic(auto, using(crate::proofs::Talking::nothing_said, crate::proofs::Talking::by_itself, crate::proofs::Booking::enters_same, crate::proofs::Printed::last_alone))]
 pub(crate) fn round<B: Blocks, P: Peer, R: Read, W: Write, C: CountBook<B>>(
     client: &mut Client<B>,
     peer: &mut P,
@@ -51,7 +51,7 @@ pub(crate) fn round<B: Blocks, P: Peer, R: Read, W: Write, C: CountBook<B>>(
 
 /// If `may` is true, makes the client begin an attempt to write its next volume; otherwise asks the
 /// operator whether to retry. Returns how the dump ended, if it did.
-#[tactic(auto, using(crate::proofs::Talking::nothing_said))]
+#[tactic(auto, using(crate::proofs::Talking::nothing_said, crate::proofs::Booking::enters_same))]
 fn begin_volume<B: Blocks, P: Peer, R: Read, W: Write, C: CountBook<B>>(
     client: &mut Client<B>,
     peer: &mut P,

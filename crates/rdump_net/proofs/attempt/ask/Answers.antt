@@ -1,56 +1,34 @@
-use Rattle.rdump_net.proofs.Words.{[], true, false, Ok, Err, refl, vec_capacity, asks, has_none}
-use Rattle.rdump_net.proofs.Talking.{one_call, kept_source, alone}
+use Rattle.rdump_net.proofs.Words.{[], true, false, Ok, Err, refl, vec_capacity, asks, has_none, alone}
+use Rattle.rdump_net.proofs.Talking.{one_call, kept_source}
 use Rattle.rdump_net.proofs.attempt.ask.Goals as goal
 
 pub returns-then-send : goal.returns-then-send
 returns-then-send g c =
     let h = c.in-Ok-true.ensures in
-    let sent = c.send.ensures in
     let asked = rw (c.clear.ensures.items, c.in-Ok-true.field-0-test) at h.asked in
-    let whole = rw (c.as_slice.ensures.value, c.if-send.true) at sent.1 in
-    one_call (λ payload. (h.same_blocks payload).0) (λ old k. record {
-      passed = sent.0;
-      later = old;
-      step = asks (vec_capacity c.clear.new.self) c.next_request.new.out.items c.next_request.new.self.at true asked whole (refl, refl);
-      keeps = h.fed old k;
-      logs = sent.2;
-    })
+    let whole = rw (c.as_slice.ensures.value, c.if-send.true) at c.send.ensures.1 in
+    one_call (λ payload. (h.same_blocks payload).0) c.send.ensures.2
+    (λ old k. (old, asks (vec_capacity c.clear.new.self) c.next_request.new.out.items c.next_request.new.self.at true asked whole (refl, refl), h.fed old k))
 
 pub returns-else-send : goal.returns-else-send
 returns-else-send g c =
     let h = c.in-Ok-true.ensures in
     let k = c.ended.ensures in
-    let sent = c.send.ensures in
     let asked = rw (c.clear.ensures.items, c.in-Ok-true.field-0-test) at h.asked in
-    let part = rw (c.as_slice.ensures.value, c.if-send.false) at sent.1 in
-    one_call (λ payload told. kept_source g.B.Blocks.holds k.same_source payload ((h.same_blocks payload).0 told)) (λ old fed. record {
-      passed = sent.0;
-      later = [];
-      step = asks (vec_capacity c.clear.new.self) c.next_request.new.out.items c.next_request.new.self.at false asked part (c.ended.result, k.moved, refl);
-      keeps = k.fed;
-      logs = sent.2;
-    })
+    let part = rw (c.as_slice.ensures.value, c.if-send.false) at c.send.ensures.1 in
+    one_call (λ payload told. kept_source g.B.Blocks.holds k.same_source payload ((h.same_blocks payload).0 told)) c.send.ensures.2
+    (λ old fed. ([], asks (vec_capacity c.clear.new.self) c.next_request.new.out.items c.next_request.new.self.at false asked part (c.ended.result, k.moved, refl), k.fed))
 
 pub returns-in-Ok-false : goal.returns-in-Ok-false
 returns-in-Ok-false g c =
     let h = c.in-Ok-false.ensures in
     let asked = rw (c.clear.ensures.items, c.in-Ok-false.field-0-test) at h.asked in
-    one_call (λ payload. (h.same_blocks payload).0) (λ old k. record {
-      passed = [];
-      later = old;
-      step = has_none (vec_capacity c.clear.new.self) (Ok false) c.next_request.new.out.items asked (λ is. cc);
-      keeps = h.fed old k;
-      logs = alone g.P.Peer.tells c.args.peer.now;
-    })
+    one_call (λ payload. (h.same_blocks payload).0) (alone g.P.Peer.tells c.args.peer.now)
+    (λ old k. (old, has_none (vec_capacity c.clear.new.self) (Ok false) c.next_request.new.out.items asked (λ is. cc), h.fed old k))
 
 pub returns-in-Err : goal.returns-in-Err
 returns-in-Err g c =
     let h = c.in-Err.ensures in
     let asked = rw c.clear.ensures.items at h.asked in
-    one_call (λ payload. (h.same_blocks payload).0) (λ old k. record {
-      passed = [];
-      later = old;
-      step = has_none (vec_capacity c.clear.new.self) (Err c.in-Err.fault) c.next_request.new.out.items asked (λ is. cc);
-      keeps = h.fed old k;
-      logs = alone g.P.Peer.tells c.args.peer.now;
-    })
+    one_call (λ payload. (h.same_blocks payload).0) (alone g.P.Peer.tells c.args.peer.now)
+    (λ old k. (old, has_none (vec_capacity c.clear.new.self) (Err c.in-Err.fault) c.next_request.new.out.items asked (λ is. cc), h.fed old k))

@@ -1,8 +1,8 @@
 use Rattle.std.proofs.lemmas.List.{length-take}
-use Rattle.rdump_net.proofs.Words.{◌++◌, ◌∷◌, [], inr, map, take, refl, arith, length-append, plain_wanted, Given, Ended}
-use Rattle.rdump_net.proofs.Talking.{alone, none_given, some_given}
+use Rattle.rdump_net.proofs.Words.{◌++◌, ◌∷◌, [], inr, map, take, refl, arith, length-append, plain_wanted, Given, Ended, alone, both}
+use Rattle.rdump_net.proofs.Talking.{none_given}
 use Rattle.rdump_net.proofs.Heard.{waiting_anew}
-use Rattle.rdump_net.proofs.Calls.{logs_both, given_both, hears_fault}
+use Rattle.rdump_net.proofs.Calls.{bytes_came, hears_fault}
 use Rattle.rdump_net.proofs.caller.hear.Goals as goal
 
 pub loop-turn-init : goal.loop-turn-init
@@ -12,36 +12,31 @@ pub returns-then-count-eq0 : goal.returns-then-count-eq0
 returns-then-count-eq0 g c =
     let w = c.loop-turn.invariant in
     let same = c.receive-count.auto.into in
-    let logs = rw (none_given c.receive-count.new.into c.receive-count.result (omega (arith, same)) c.if-count-eq0.true) at c.receive-count.ensures.told in
-    (map Given w.0 ++ Ended ∷ [], (w.0, w.1.begun, refl), logs_both g.P.Peer.tells c.args.peer.now c.loop-turn.peer c.receive-count.new.self (map Given w.0) (Ended ∷ []) w.2 logs)
+    let ended = rw (none_given c.receive-count.new.into c.receive-count.result (omega (arith, same)) c.if-count-eq0.true) at c.receive-count.ensures.told in
+    (map Given w.0 ++ Ended ∷ [], (w.0, w.1.begun, refl), both g.P.Peer.tells w.2 ended)
 
 pub returns-in-Ok-Some : goal.returns-in-Ok-Some
 returns-in-Ok-Some g c =
     let w = c.loop-turn.invariant in
-    let piece = take c.receive-count.result c.receive-count.new.into in
-    let logs = rw (some_given c.receive-count.new.into c.receive-count.result c.receive-count.ensures.within c.if-count-eq0.false) at c.receive-count.ensures.told in
-    let all = given_both g.P.Peer.tells c.args.peer.now c.loop-turn.peer c.receive-count.new.self w.0 piece w.2 logs in
-    (map Given (w.0 ++ piece), (w.0 ++ piece, rw c.in-Ok-Some.field-0-is at (c.in-Ok-Some.ensures (plain_wanted c.args.wanted) w.0 w.1), refl), all)
+    let bytes = w.0 ++ take c.receive-count.result c.receive-count.new.into in
+    let told = bytes_came g.P.Peer.tells w.0 _ _ w.2 c.receive-count.ensures.within c.if-count-eq0.false c.receive-count.ensures.told in
+    (map Given bytes, (bytes, rw c.in-Ok-Some.field-0-is at (c.in-Ok-Some.ensures (plain_wanted c.args.wanted) w.0 w.1), refl), told)
 
 pub returns-in-Err : goal.returns-in-Err
 returns-in-Err g c =
     let w = c.loop-turn.invariant in
-    let piece = take c.receive-count.result c.receive-count.new.into in
-    let logs = rw (some_given c.receive-count.new.into c.receive-count.result c.receive-count.ensures.within c.if-count-eq0.false) at c.receive-count.ensures.told in
-    let all = given_both g.P.Peer.tells c.args.peer.now c.loop-turn.peer c.receive-count.new.self w.0 piece w.2 logs in
-    hears_fault g.P.Peer.tells (plain_wanted c.args.wanted) c.args.peer.now c.receive-count.new.self (w.0 ++ piece) c.in-Err.fault c.take.new.reader (c.in-Err.ensures _ w.0 w.1) all
+    hears_fault g.P.Peer.tells (plain_wanted c.args.wanted) _ c.in-Err.fault c.take.new.reader (c.in-Err.ensures _ w.0 w.1)
+    (bytes_came g.P.Peer.tells w.0 _ _ w.2 c.receive-count.ensures.within c.if-count-eq0.false c.receive-count.ensures.told)
 
 pub loop-turn-preserved : goal.loop-turn-preserved
 loop-turn-preserved g c =
     let w = c.loop-turn.invariant in
-    let piece = take c.receive-count.result c.receive-count.new.into in
-    let logs = rw (some_given c.receive-count.new.into c.receive-count.result c.receive-count.ensures.within c.if-count-eq0.false) at c.receive-count.ensures.told in
-    let long = length-append w.0 piece in
+    let long = length-append w.0 (take c.receive-count.result c.receive-count.new.into) in
     let some = length-take c.receive-count.result c.receive-count.new.into in
     let within = c.receive-count.ensures.within in
     let not_none = c.if-count-eq0.false in
     let awaited = rw c.in-Ok-None.field-0-is at (c.in-Ok-None.ensures (plain_wanted c.args.wanted) w.0 w.1) in
-    (w.0 ++ piece, awaited, given_both g.P.Peer.tells c.args.peer.now c.loop-turn.peer c.receive-count.new.self w.0 piece w.2 logs, omega (arith, w.3))
+    (_, awaited, bytes_came g.P.Peer.tells w.0 _ _ w.2 within not_none c.receive-count.ensures.told, omega (arith, w.3))
 
 pub returns : goal.returns
 returns g c =

@@ -1,8 +1,15 @@
-use Rattle.rdump_net.proofs.Keeping.{dump_printed, dump_talks}
+use Rattle.rdump_net.proofs.Keeping.{dump_printed, kept_talks}
 use Rattle.rdump_net.proofs.kept.dump.Goals as goal
 
-pub returns-clause-talks : goal.returns-clause-talks
-returns-clause-talks g c = dump_talks c.dump_kept-end.ensures.kept
-
-pub returns-clause-printed : goal.returns-clause-printed
-returns-clause-printed g c = dump_printed c.status.ensures c.dump_kept-end.ensures.able c.dump_kept-end.ensures.kept
+pub returns : goal.returns
+returns g c =
+    let h = c.dump_kept-end.ensures.kept in
+    record {
+      talks = record {
+        same = h.same;
+        talked = λ fed has.
+            let one = h.kept fed has in
+            record { passed = one.has.passed; later = one.has.later; talks = kept_talks one.has.dumped; keeps = one.has.keeps; logs = one.has.logs };
+      };
+      printed = dump_printed c.status.ensures c.dump_kept-end.ensures.able h;
+    }

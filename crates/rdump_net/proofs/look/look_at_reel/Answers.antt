@@ -1,6 +1,5 @@
-use Rattle.rdump_net.proofs.Words.{[], ◌∷◌, inr, refl, Ended}
+use Rattle.rdump_net.proofs.Words.{[], ◌∷◌, inr, refl, Ended, alone}
 use Rattle.rdump_net.proofs.Looking.{whole_look}
-use Rattle.rdump_net.proofs.Talking.{alone}
 use Rattle.rdump_net.proofs.look.look_at_reel.Goals as goal
 
 pub returns-in_default : goal.returns-in_default

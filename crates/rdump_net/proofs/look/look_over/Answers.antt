@@ -1,12 +1,11 @@
-use Rattle.rdump_net.proofs.Words.{Err, refl, Closed, Opening}
+use Rattle.rdump_net.proofs.Words.{Err, refl, Closed, Opening, is_fault}
 use Rattle.rdump_net.specs.declared.look.LookRequest.TheVariants as asked
-use Rattle.rdump_net.proofs.Looking.{answer_failed, goes_both, goes_fails, part_after}
+use Rattle.rdump_net.proofs.Looking.{failed_part, goes_both, goes_fails, part_after}
 use Rattle.rdump_net.proofs.look.look_over.Goals as goal
 
 pub returns-in_err-ask : goal.returns-in_err-ask
 returns-in_err-ask g c =
-    let h = c.in_err-ask.ensures c.args.device.now Opening refl in
-    answer_failed g.P.Peer.tells c.args.device.now c.args.peer.now c.ask.new.peer Opening Closed asked.Open c.from_residual.result c.in_err-ask.field-0.0 c.from_residual.ensures.1 (λ n text. refl) h
+    rw (is_fault c.from_residual.ensures.1) (failed_part _ _ _ _ Opening Closed asked.Open c.in_err-ask.field-0.0 (λ n text. refl) (c.in_err-ask.ensures c.args.device.now Opening refl))
 
 pub returns-in-Ok : goal.returns-in-Ok
 returns-in-Ok g c =
@@ -21,5 +20,4 @@ returns-in-Err-Refused g c =
 
 pub returns-in-Err-NoReply : goal.returns-in-Err-NoReply
 returns-in-Err-NoReply g c =
-    let device = c.args.device.now in
-    goes_fails (c.in_ok-ask.ensures device Opening refl).1 (rw c.in-Err-NoReply.field-0-is at (c.in-Err-NoReply.ensures device))
+    let device = c.args.device.now in goes_fails (c.in_ok-ask.ensures device Opening refl).1 (rw c.in-Err-NoReply.field-0-is at (c.in-Err-NoReply.ensures device))

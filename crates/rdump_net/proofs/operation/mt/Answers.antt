@@ -1,8 +1,6 @@
-use Rattle.rdump_net.proofs.Words.{Some, [], true, refl, inr, ConnectionEnded, OutOfMemory}
-use Rattle.rdump_net.specs.Operation.{next_of}
-use Rattle.rdump_net.proofs.Calls.{whole_talk, no_talk}
+use Rattle.rdump_net.proofs.Words.{Some, [], ◌∷◌, true, refl, inr, Ended, ConnectionEnded, OutOfMemory, alone}
+use Rattle.rdump_net.proofs.Calls.{whole_talk}
 use Rattle.rdump_net.proofs.Printed.{nothing_printed}
-use Rattle.rdump_net.proofs.Talking.{alone}
 use Rattle.rdump_net.proofs.operation.mt.Goals as goal
 
 pub returns-in_default : goal.returns-in_default
@@ -13,13 +11,12 @@ returns-in_default g c =
 
 pub returns-then-not-connect : goal.returns-then-not-connect
 returns-then-not-connect g c =
-    let made = rw c.if-not-connect.true at c.connect.ensures in
-    let w = no_talk (next_of c.args.device.now c.args.op c.args.count) g.P.Peer.tells c.args.peer.now c.connect.new.self made in
+    let cut = rw c.if-not-connect.true at c.connect.ensures in
     let printed = nothing_printed g.W.Write.contents c.args.out.now in
-    record { replies = []; fault = Some ConnectionEnded; passed = w.0; whole = true; stops = w.1; logs = w.2; printed = printed; result = refl }
+    record { replies = []; fault = Some ConnectionEnded; passed = Ended ∷ []; whole = true; stops = inr (refl, refl); logs = cut; printed = printed; result = refl }
 
 pub returns : goal.returns
 returns g c =
     let o = c.operate-status.ensures in
-    let w = whole_talk (next_of c.args.device.now c.args.op c.args.count) g.P.Peer.tells c.args.peer.now c.connect.new.self c.operate-status.new.peer c.hang_up.new.self o.fault o.replies (rw c.if-not-connect.false at c.connect.ensures) o.finishes c.hang_up.ensures in
+    let w = whole_talk o.fault (rw c.if-not-connect.false at c.connect.ensures) o.finishes c.hang_up.ensures in
     record { replies = o.replies; fault = o.fault; passed = w.0; whole = o.whole; stops = w.1; logs = w.2; printed = o.printed; result = o.result }

@@ -1,14 +1,14 @@
-use Rattle.rdump_net.proofs.Words.{List, drop, length, subst, ◌≤◌, take_all, VolumeCount, EntersOn}
-use Rattle.rdump_net.proofs.Booking.{enters_next, enters_none}
+use Rattle.rdump_net.proofs.Words.{List, drop, length, subst, sym, ◌≤◌, take_all, take_more, VolumeCount, EntersOn, alone, both}
 use Rattle.rdump_net.proofs.rounds.enter_counts.Goals as goal
 
 pub loop-count-init : goal.loop-count-init
-loop-count-init g c = enters_none g.C.CountBook.entered c.args.book.now
+loop-count-init g c = alone g.C.CountBook.entered c.args.book.now
 
 pub loop-count-preserved : goal.loop-count-preserved
 loop-count-preserved g c =
-    enters_next g.C.CountBook.entered c.args.book.now c.loop-count.book c.enter.new.self c.counts_from-count-items.result.now (drop c.args.before c.args.client.now.at.counts)
-    c.loop-count.count-index _ c.counts_from-count-items.ensures c.loop-count-test.true c.loop-count.invariant c.enter.ensures
+    let entered = g.C.CountBook.entered in
+    rw (← c.counts_from-count-items.ensures) (subst (EntersOn entered c.args.book.now c.enter.new.self) (sym (take_more c.counts_from-count-items.result.now c.loop-count.count-index _ c.loop-count-test.true))
+    (both entered (rw (← c.counts_from-count-items.ensures) at c.loop-count.invariant) c.enter.ensures))
 
 pub returns : goal.returns
 returns g c =

@@ -1,6 +1,6 @@
-use Rattle.rdump_net.proofs.Words.{◌≡◌, [], subst, sym, checkpoint_of, DumpLines, failure_lines, none}
+use Rattle.rdump_net.proofs.Words.{◌≡◌, [], checkpoint_of, failed, failure_lines, none}
 use Rattle.dump_client.specs.declared.fault.AttemptFault.TheVariants.{OutOfMemory}
-use Rattle.rdump_net.proofs.Printed.{lines_failed, nothing_printed}
+use Rattle.rdump_net.proofs.Printed.{nothing_printed}
 use Rattle.rdump_net.proofs.rounds.report.Goals as goal
 
 pub returns-in-Over-clause-printed : goal.returns-in-Over-clause-printed
@@ -8,7 +8,6 @@ returns-in-Over-clause-printed g c = ([], none, nothing_printed g.W.Write.conten
 
 pub ask_here-requires : goal.ask_here-requires
 ask_here-requires g c =
-    let counts = c.args.client.now.at.counts in
-    let e : c.as_bytes.result.now ≡ failure_lines (checkpoint_of counts).0 OutOfMemory =
+    let e : c.as_bytes.result.now ≡ failure_lines (checkpoint_of c.args.client.now.at.counts).0 OutOfMemory =
     (let a = c.as_bytes.ensures.value in let b = c.deref.ensures in let d = c.failure_of-lines.ensures in cc) in
-    subst (DumpLines counts counts) (sym e) (lines_failed counts OutOfMemory)
+    rw e (failed OutOfMemory none)

@@ -3,14 +3,12 @@ use Rattle.rdump_net.proofs.rounds.try_volume.Goals as goal
 
 pub returns-then-not-print_since-clause-printed : goal.returns-then-not-print_since-clause-printed
 returns-then-not-print_since-clause-printed g c =
-    let new = c.attempt-attempted.new.client in
-    let printed = rw c.if-not-print_since.true at c.print_since.ensures in
-    cut_short g.W.Write.contents c.args.client.now.at.counts new.at c.args.out.now c.print_since.new.out _
-    (lines_since c.args.client.now.at.counts new.at.counts c.volumes-before.result c.volumes-before.ensures c.attempt-attempted.ensures.grows) printed
+    let lines = lines_since c.args.client.now.at.counts c.attempt-attempted.new.client.at.counts c.volumes-before.result c.volumes-before.ensures c.attempt-attempted.ensures.grows in
+    cut_short _ lines (rw c.if-not-print_since.true at c.print_since.ensures)
 
 pub returns-clause-printed : goal.returns-clause-printed
 returns-clause-printed g c =
     let new = c.attempt-attempted.new.client in
-    let printed = rw c.if-not-print_since.false at c.print_since.ensures in
+    let lines = lines_since c.args.client.now.at.counts new.at.counts c.volumes-before.result c.volumes-before.ensures c.attempt-attempted.ensures.grows in
     round_after g.W.Write.contents c.args.client.now.at.counts new.at.counts new.at c.args.out.now c.print_since.new.out c.report.new.out _ c.report.result
-    (lines_since c.args.client.now.at.counts new.at.counts c.volumes-before.result c.volumes-before.ensures c.attempt-attempted.ensures.grows) printed c.report.ensures.printed
+    lines (rw c.if-not-print_since.false at c.print_since.ensures) c.report.ensures.printed

@@ -1,15 +1,12 @@
-use Rattle.rdump_net.proofs.Words.{[], ◌∷◌, refl, next_of, IsBegun}
-use Rattle.rdump_net.proofs.Calls.{err_from}
-use Rattle.rdump_net.proofs.Reading.{rewind_next, begun_both}
+use Rattle.rdump_net.proofs.Words.{[], ◌∷◌, refl, next_of, is_fault}
+use Rattle.rdump_net.proofs.Reading.{begun_both}
 use Rattle.rdump_net.proofs.volume.begin.Goals as goal
 
 pub returns-in_err-ask : goal.returns-in_err-ask
-returns-in_err-ask g c = λ after completed.
-    err_from (IsBegun g.P.Peer.tells c.args.device.now after completed c.args.peer.now c.ask.new.peer) c.from_residual.result c.in_err-ask.field-0.0 c.from_residual.ensures.1
-    (c.in_err-ask.ensures (next_of c.args.device.now after completed) [] refl (λ number text. refl))
+returns-in_err-ask g c = λ after completed. rw (is_fault c.from_residual.ensures.1) (c.in_err-ask.ensures (next_of c.args.device.now after completed) [] refl (λ number text. refl))
 
 pub returns : goal.returns
 returns g c = λ after completed.
     let a = c.in_ok-ask.ensures (next_of c.args.device.now after completed) [] refl (λ number text. refl) in
     begun_both g.P.Peer.tells c.args.device.now after completed c.args.peer.now c.ask.new.peer c.ask-2.new.peer a.0 c.ask-2.result a.2 a.3
-    (c.ask-2.ensures (next_of c.args.device.now after completed) (a.0 ∷ []) (rewind_next c.args.device.now after completed a.0 a.1) (λ number text. refl))
+    (c.ask-2.ensures (next_of c.args.device.now after completed) (a.0 ∷ []) (rw a.1 refl) (λ number text. refl))

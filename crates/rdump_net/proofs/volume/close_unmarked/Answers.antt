@@ -2,4 +2,4 @@ use Rattle.rdump_net.proofs.Marks.{closed_unmarked}
 use Rattle.rdump_net.proofs.volume.close_unmarked.Goals as goal
 
 pub returns : goal.returns
-returns g c = λ goes next replies at unmarked. closed_unmarked next g.P.Peer.tells goes c.args.peer.now c.call.new.peer replies c.args.fault c.call.result at unmarked c.call.ensures
+returns g c = λ goes next replies at unmarked. closed_unmarked c.call.result at unmarked c.call.ensures

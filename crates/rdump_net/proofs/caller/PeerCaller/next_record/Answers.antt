@@ -1,12 +1,9 @@
-use Rattle.rdump_net.proofs.Words.{Err, refl, RECORD_LIMIT, IsRecordCalled, read_fault}
-use Rattle.rdump_net.proofs.Calls.{err_from}
+use Rattle.rdump_net.proofs.Words.{Err, refl, RECORD_LIMIT, is_fault}
 use Rattle.rdump_net.proofs.Reading.{no_number}
 use Rattle.rdump_net.proofs.caller.PeerCaller.next_record.Goals as goal
 
 pub returns-in_err-reply : goal.returns-in_err-reply
-returns-in_err-reply g c =
-    let fault = c.in_err-reply.field-0.0 in
-    err_from (IsRecordCalled g.P.Peer.tells c.args.peer.now c.call.new.peer) c.from_residual.result (read_fault fault) c.from_residual.ensures.1 (Err fault, refl, c.in_err-reply.ensures)
+returns-in_err-reply g c = rw (is_fault c.from_residual.ensures.1) (Err c.in_err-reply.field-0.0, refl, c.in_err-reply.ensures)
 
 pub returns : goal.returns
 returns g c =

@@ -1,13 +1,9 @@
-use Rattle.rdump_net.proofs.Words.{refl, Op, IsOperationCalled, read_fault}
-use Rattle.rdump_net.proofs.Calls.{err_from}
+use Rattle.rdump_net.proofs.Words.{refl, Op, is_fault}
 use Rattle.rdump_net.proofs.Reading.{no_data}
 use Rattle.rdump_net.proofs.caller.PeerCaller.operate.Goals as goal
 
 pub returns-in_err-reply : goal.returns-in_err-reply
-returns-in_err-reply g c =
-    let fault = c.in_err-reply.field-0.0 in
-    err_from (IsOperationCalled g.P.Peer.tells c.args.op c.args.count c.args.peer.now c.call.new.peer) c.from_residual.result (read_fault fault) c.from_residual.ensures.1
-    (fault, refl, c.in_err-reply.ensures)
+returns-in_err-reply g c = rw (is_fault c.from_residual.ensures.1) (c.in_err-reply.field-0.0, refl, c.in_err-reply.ensures)
 
 pub returns-in-Error : goal.returns-in-Error
 returns-in-Error g c = (_, rw c.in-Error.is at c.in_ok-reply.ensures)
