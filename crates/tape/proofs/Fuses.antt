@@ -1,71 +1,30 @@
 -- What a stopped append leaves, part after part.
-use Rattle.tape.proofs.Words.{zero, suc, Option, Some, None, if◌then◌else◌, subst, ◌≡◌, ◌⊎◌, ℕ, ◌+◌, ◌-◌, List, ◌++◌, length, take, min, Bool, Result, Ok, Err, IsErr, OnOk, true, false, inl, inr, refl, sym, ap, ◌∙◌, length-append, append_assoc, append-nil, arith, is_err, take-append-add, take-length, take-append-le, take_min, cases_lt, MediumKind, IsMediumCall, Append, Cut, raised, Fused, CanStop, IsLeft, counted_down, fuse_kind, is_due, MediumFailed}
-use Rattle.tape.proofs.Appends.{append_part, append_short}
+use Rattle.tape.proofs.Words.{Option, if◌then◌else◌, ◌≡◌, ◌⊎◌, ℕ, ◌-◌, List, ◌++◌, length, take, min, Bool, Result, Ok, Err, IsErr, OnOk, true, false, inl, inr, refl, sym, ap, ◌∙◌, append-nil, arith, take-append-add, take-length, take-append-le, take_min, is_err, MediumKind, IsMediumCall, Cut, raised, Fused, CanStop, IsLeft, counted_down, fuse_kind, is_due, MediumFailed}
+use Rattle.tape.proofs.Appends.{Appends}
 
--- one append
-pub left_by_append : {S : Type 0} {m : MediumKind S} {old new : S} {bytes : List ℕ} (r : Result Unit MediumFailed)
-    → IsMediumCall m old (Append bytes r) new → IsLeft m old bytes new
-left_by_append {bytes = bytes} (Ok u) c = record {
-  step = λ x held. let s = c.step x held in (s.0, s.1, (length bytes, s.2 ∙ ap (λ l. x ++ l) (sym (take-length bytes))));
-  exact = λ sound fits. c.step;
-  quiet = c.quiet;
-  room = c.room;
+-- what appends in a row leave
+pub left_by : {S : Type 0} {m : MediumKind S} {old new : S} {bytes : List ℕ} (r : Result Unit MediumFailed) → Appends m bytes r old new
+    → IsLeft m old bytes new
+left_by {bytes = bytes} (Ok u) run = record {
+  step = λ x held. let s = run.step x held in (s.0, s.1, (length bytes, s.2 ∙ ap (λ l. x ++ l) (sym (take-length bytes))));
+  exact = λ sound fits. run.step;
+  quiet = run.quiet;
+  room = run.room;
 }
-left_by_append (Err e) c = record {
-  step = c.step;
-  exact = λ sound fits. absurd (elim (c.able refl) [ inl can ↦ sound can | inr short ↦ omega arith ]);
-  quiet = c.quiet;
-  room = c.room;
-}
-
--- an append that went well, and what is left after it
-pub left_then : {S : Type 0} {m : MediumKind S} {a b d : S} {x y : List ℕ} (u : Unit {0})
-    → IsMediumCall m a (Append x (Ok u)) b → IsLeft m b y d → IsLeft m a (x ++ y) d
-left_then {x = x} {y = y} u c l = record {
-  step = λ bytes held.
-      let s = c.step bytes held in
-      let t = l.step s.0 s.1 in
-      (t.0, t.1, (length x + t.2.0, append_part x y t.2.0 bytes s.0 t.0 s.2 t.2.1));
-  exact = λ sound fits.
-      let room = c.room in
-      let whole = length-append x y in
-      let after = l.exact (λ can. sound (c.quiet can)) (omega arith) in
-      λ bytes held.
-      let s = c.step bytes held in
-      let t = after s.0 s.1 in
-      (t.0, t.1, t.2 ∙ ap (λ z. z ++ y) s.2 ∙ append_assoc bytes x y);
-  quiet = λ can. c.quiet (l.quiet can);
-  room = let room = c.room in let more = l.room in let whole = length-append x y in omega arith;
-}
-
--- an append that failed, and nothing after it
-pub left_short : {S : Type 0} {m : MediumKind S} {a b : S} {x : List ℕ} (y : List ℕ) (e : MediumFailed)
-    → IsMediumCall m a (Append x (Err e)) b → IsLeft m a (x ++ y) b
-left_short {x = x} y e c = record {
-  step = λ bytes held. let s = c.step bytes held in (s.0, s.1, append_short x y e e bytes s.0 s.2);
-  exact = λ sound fits.
-      let whole = length-append x y in
-      absurd (elim (c.able refl) [ inl can ↦ sound can | inr short ↦ omega arith ]);
-  quiet = c.quiet;
-  room = let room = c.room in let whole = length-append x y in omega arith;
+left_by (Err e) run = record {
+  step = run.step;
+  exact = λ sound fits. absurd (elim (run.able refl) [ inl can ↦ sound can | inr short ↦ omega arith ]);
+  quiet = run.quiet;
+  room = run.room;
 }
 
 -- the first bytes of two lists, joined
-pub first_of_two : (n : ℕ) (x y : List ℕ) → take n (x ++ y) ≡ take (min (length x) n) x ++ take (n - min (length x) n) y
-first_of_two n x y = elim (cases_lt n (length x)) [
-  | inl short ↦
-      let k : min (length x) n ≡ n = omega arith in
-      let none : n - min (length x) n ≡ 0 = omega arith in
-      take-append-le n x y (omega arith) ∙ ap (λ i. take i x) (sym k) ∙ sym (append-nil _) ∙ ap (λ i. take (min (length x) n) x ++ take i y) (sym none)
-  | inr long ↦
-      let k : min (length x) n ≡ length x = omega arith in
-      let size : n ≡ length x + (n - min (length x) n) = omega arith in
-      ap (λ i. take i (x ++ y)) size ∙ take-append-add x y (n - min (length x) n) ∙ ap (λ l. l ++ take (n - min (length x) n) y) (sym (take-length x))
-      ∙ ap (λ i. take i x ++ take (n - min (length x) n) y) (sym k)
-]
+first_of_two : (n : ℕ) (x y : List ℕ) → take n (x ++ y) ≡ take (min (length x) n) x ++ take (n - min (length x) n) y
+first_of_two n x y =
+    grind (arith, take-append-le n x y, take-append-add x y (n - length x), append-nil (take n x), take-length x)
 
 -- the first bytes of a frame, bytes and a frame
-parts : (n : ℕ) (f b : List ℕ) → take n (f ++ (b ++ f))
+pub parts : (n : ℕ) (f b : List ℕ) → take n (f ++ (b ++ f))
     ≡ take (min (length f) n) f ++ (take (min (length b) (n - min (length f) n)) b
     ++ take (min (length f) (n - min (length f) n - min (length b) (n - min (length f) n))) f)
 parts n f b =
@@ -75,50 +34,23 @@ parts n f b =
     = sym (take_min (n - i - j) f) ∙ ap (λ k. take k f) (omega arith) in
     first_of_two n f (b ++ f) ∙ ap (λ l. take i f ++ l) (first_of_two (n - i) b f) ∙ ap (λ l. take i f ++ (take j b ++ l)) last
 
--- The parts of a frame, bytes and a frame, added one after the other: all of them, or up to the first that fails.
-module _ {S : Type 0} {m : MediumKind S} {a b : S} (n : ℕ) (f x : List ℕ) (i : ℕ) (first_is : i ≡ min (length f) n) where
-  pub left_first : (r : Result Unit MediumFailed) → is_err r ≡ true → IsMediumCall m a (Append (take i f) r) b
-      → IsLeft m a (take n (f ++ (x ++ f))) b
-  left_first (Ok u) is c = absurd cc
-  left_first (Err e) is c = rw (parts n f x) (rw (sym first_is) (left_short _ e c))
-
-  pub left_two : {d : S} (r s : Result Unit MediumFailed) → is_err r ≡ false → is_err s ≡ true → (j : ℕ) → j ≡ min (length x) (n - i)
-      → IsMediumCall m a (Append (take i f) r) b → IsMediumCall m b (Append (take j x) s) d → IsLeft m a (take n (f ++ (x ++ f))) d
-  left_two (Err e) s is also j next_is c l = absurd cc
-  left_two (Ok u) (Ok v) is also j next_is c l = absurd cc
-  left_two (Ok u) (Err e) is also j next_is c l = rw (parts n f x) (rw (sym first_is) (rw (sym next_is) (left_then u c (left_short _ e l))))
-
-  pub left_all : {d e : S} (r s t : Result Unit MediumFailed) → is_err r ≡ false → is_err s ≡ false → (j k : ℕ) → j ≡ min (length x) (n - i)
-      → k ≡ min (length f) (n - i - j) → IsMediumCall m a (Append (take i f) r) b → IsMediumCall m b (Append (take j x) s) d
-      → IsMediumCall m d (Append (take k f) t) e → IsLeft m a (take n (f ++ (x ++ f))) e
-  left_all (Err e) s t is also j k next_is last_is c l o = absurd cc
-  left_all (Ok u) (Err e) t is also j k next_is last_is c l o = absurd cc
-  left_all (Ok u) (Ok v) t is also j k next_is last_is c l o =
-      rw (parts n f x) (rw (sym first_is) (rw (sym next_is) (rw (sym last_is) (left_then u c (left_then v l (left_by_append t o))))))
-
 -- a cut that is stopped, and not made
 pub stopped_cut : {M : Type 0} (holds : M → List ℕ → Type 0) (can_fail : M → Type 0) (spare : M → ℕ) (old new : Fused M) (len : ℕ) (e : MediumFailed)
     (to_go : Option ℕ) → old.to_go ≡ to_go → is_due to_go ≡ true
     → new ≡ record old { to_go = counted_down old.once to_go; failures = if is_due to_go then raised old.failures else old.failures }
     → IsMediumCall (fuse_kind holds can_fail spare) old (Cut len (Err e)) new
-stopped_cut holds can_fail spare old new len e None at blown is = absurd cc
-stopped_cut holds can_fail spare old new len e (Some (suc n)) at blown is = absurd cc
-stopped_cut holds can_fail spare old new len e (Some zero) at blown is =
-    let armed : CanStop old.to_go = subst CanStop (sym at) tt in
+stopped_cut holds can_fail spare old new len e to_go at blown is =
     let inner : new.inner ≡ old.inner = ap (λ f. f.inner) is in
-    let count : new.failures ≡ raised old.failures = ap (λ f. f.failures) is in
-    let P : _ → Type 0 = λ m. can_fail m → can_fail old.inner in
-    let Q : _ → Type 0 = λ m. (x : List ℕ) → holds old.inner x → holds m x in
-    let told = subst Q (sym inner) (λ x held. held) in
+    let armed : CanStop old.to_go = grind arith in
     record {
-      step = λ x held. (x, told x held, inl refl);
+      step = λ x held. (x, rw inner held, inl refl);
       kept = λ reads. absurd reads;
       can = tt;
-      failed = λ f. omega (arith, count);
+      failed = λ f. grind arith;
       same = inr refl;
-      counted = omega (arith, count);
+      counted = grind arith;
       able = λ f. inl (inr armed);
-      quiet = λ can. elim can [ inl c ↦ inl (subst P (sym inner) (λ x. x) c) | inr a ↦ inr armed ];
+      quiet = λ can. elim can [ inl c ↦ inl (rw inner at c) | inr a ↦ inr armed ];
       room = omega (arith, ap spare inner);
     }
 

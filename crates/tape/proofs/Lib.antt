@@ -1,7 +1,5 @@
 mod Words
 pub mod Calls
-pub mod Entries
-pub mod Spacing
 pub mod Devices
 pub mod Spelling
 pub mod Limits
@@ -18,6 +16,5 @@ pub mod Taking
 pub mod Walks
 pub mod Scanning
 pub mod Held
-pub mod Memory
 pub mod Fuses
 pub mod Stood

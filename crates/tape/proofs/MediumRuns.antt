@@ -1,5 +1,5 @@
 -- Calls of a medium in a row.
-use Rattle.tape.proofs.Words.{◌≡◌, ◌≢◌, false, true, ℕ, ◌+◌, ◌<◌, ◌≤◌, List, inl, inr, refl, ◌∙◌, arith, MediumCall, MediumStep, HasFailed, bytes_added, MediumKind, IsMediumCall, AreMediumCalls}
+use Rattle.tape.proofs.Words.{◌≡◌, ◌≢◌, false, true, ℕ, ◌+◌, ◌<◌, ◌≤◌, List, inl, inr, refl, subst, ◌∙◌, arith, MediumCall, MediumStep, HasFailed, bytes_added, MediumKind, IsMediumCall, AreMediumCalls}
 
 pub run_call : {S : Type 0} {m : MediumKind S} {old new : S} {call : MediumCall} → IsMediumCall m old call new
     → AreMediumCalls m (MediumStep call) (bytes_added call) (HasFailed call) old new
@@ -65,3 +65,17 @@ run_then r q not to from fits both = record {
   quiet = λ x. r.quiet (q.quiet x);
   room = let k = r.room in let l = q.room in omega arith;
 }
+
+-- the bytes stay as they were, and this holds of them
+abbrev pub Looks : (List ℕ → Type 0) → List ℕ → List ℕ → Type 0
+Looks tells old new = (new ≡ old) × tells old
+
+module _ {S : Type 0} {m : MediumKind S} {F : Type 0} {P Q : List ℕ → Type 0} where
+  -- calls that leave the bytes, and what follows from what they found
+  pub look : {a b : S} → AreMediumCalls m (Looks P) 0 F a b → ((x : List ℕ) → P x → Q x) → AreMediumCalls m (Looks Q) 0 F a b
+  look r tells = run_as r (λ f. f) (λ f. f) no_bytes (λ x y held s. (s.0, tells x s.1))
+
+  -- the same for one run and then another
+  pub look_on : {a b c : S} {R : List ℕ → Type 0} → AreMediumCalls m (Looks P) 0 (false ≡ true) a b → AreMediumCalls m (Looks Q) 0 F b c
+      → ((x : List ℕ) → P x → Q x → R x) → AreMediumCalls m (Looks R) 0 F a c
+  look_on r q tells = run_then r q no_error (λ f. f) (λ f. f) no_bytes_twice (λ x y z held s n. (n.0 ∙ s.0, tells x s.1 (subst Q s.0 n.1)))

@@ -1,68 +1,53 @@
 -- A file with a place in it: what stands before the place, and what stands from there on.
-use Rattle.tape.proofs.Words.{◌≡◌, ℕ, List, [], ◌++◌, length, take, drop, refl, sym, ap, ap₂, subst, ◌∙◌, append_assoc, append-nil, arith, take_at, drop_at, All-append, All-take, All-drop, flat_map-append, All, PlainEntry, Tape, IsTapeEntry, tape, image_of, images_of, IsTail, SpellsReel, IsFile, tape_in}
+use Rattle.tape.proofs.Words.{◌≡◌, ℕ, List, [], ◌++◌, length, take, drop, refl, sym, ap, ap₂, subst, ◌∙◌, append_assoc, append-nil, arith, take_at, drop_at, All-append, All-take, All-drop, flat_map-append, All, PlainEntry, Tape, IsTapeEntry, tape, image_of, images_of, SpellsReel, IsFile, tape_in}
 use Rattle.tape.proofs.Spelling.{spells_in, tail_short}
-
-pub All_front : (P : PlainEntry → Type 0) (xs ys : List PlainEntry) → All P (xs ++ ys) → All P xs
-All_front P xs ys all = subst (All P) (take_at xs ys (length xs) refl) (All-take P (length xs) (xs ++ ys) all)
 
 pub All_back : (P : PlainEntry → Type 0) (xs ys : List PlainEntry) → All P (xs ++ ys) → All P ys
 All_back P xs ys all = subst (All P) (drop_at xs ys (length xs) refl) (All-drop P (length xs) (xs ++ ys) all)
 
 -- a file, cut at the place
-pub record IsParted (bytes : List ℕ) (offset : ℕ) (before after : List PlainEntry) : Type 0 where
-  pub tail : List ℕ
-  pub whole : bytes ≡ images_of before ++ (images_of after ++ tail)
-  pub is_tail : IsTail tail
-  pub before_is : All IsTapeEntry before
-  pub after_is : All IsTapeEntry after
-  pub offset_is : offset ≡ length (images_of before)
+pub record IsParted (bytes : List ℕ) (offset : ℕ) (t : Tape) : Type 0 where
+  pub front : take offset bytes ≡ images_of t.before
+  pub lawful : All IsTapeEntry t.before
+  pub back : SpellsReel (drop offset bytes) t.after
 
-pub parted : (bytes : List ℕ) (offset : ℕ) (t : Tape) → IsFile bytes offset t → IsParted bytes offset t.before t.after
-parted bytes offset t f = record {
-  tail = f.spelled.tail;
-  whole = f.spelled.whole ∙ ap (λ l. l ++ f.spelled.tail) (flat_map-append image_of t.before t.after)
-      ∙ append_assoc (images_of t.before) (images_of t.after) f.spelled.tail;
-  is_tail = f.spelled.is_tail;
-  before_is = All_front IsTapeEntry t.before t.after f.spelled.lawful;
-  after_is = All_back IsTapeEntry t.before t.after f.spelled.lawful;
-  offset_is = f.offset_is;
-}
+pub parted : {bytes : List ℕ} {offset : ℕ} {t : Tape} → IsFile bytes offset t → IsParted bytes offset t
+parted {bytes} {offset} {t} f =
+    let behind = images_of t.after ++ f.spelled.tail in
+    let whole : bytes ≡ images_of t.before ++ behind
+    = f.spelled.whole ∙ ap (λ l. l ++ f.spelled.tail) (flat_map-append image_of t.before t.after)
+    ∙ append_assoc (images_of t.before) (images_of t.after) f.spelled.tail in
+    record {
+      front = ap (take offset) whole ∙ take_at (images_of t.before) behind offset (sym f.offset_is);
+      lawful = subst (All IsTapeEntry) (take_at t.before t.after (length t.before) refl)
+          (All-take IsTapeEntry (length t.before) (t.before ++ t.after) f.spelled.lawful);
+      back = record {
+        tail = f.spelled.tail;
+        whole = ap (drop offset) whole ∙ drop_at (images_of t.before) behind offset (sym f.offset_is);
+        is_tail = f.spelled.is_tail;
+        lawful = All_back IsTapeEntry t.before t.after f.spelled.lawful;
+      };
+    }
 
-pub joined : (bytes : List ℕ) (offset : ℕ) (t : Tape) → IsParted bytes offset t.before t.after → IsFile bytes offset t
-joined bytes offset t p = record {
+-- a file, put together from entries whose images stand before the place, and others that the bytes spell from it on
+pub joined : (x part : List ℕ) (at : ℕ) (before after : List PlainEntry) → x ≡ images_of before ++ part → at ≡ length (images_of before)
+    → All IsTapeEntry before
+    → SpellsReel part after → IsFile x at (tape before after)
+joined x part at before after is offset lawful s = record {
   spelled = record {
-    tail = p.tail;
-    whole = p.whole ∙ sym (append_assoc (images_of t.before) (images_of t.after) p.tail)
-        ∙ ap (λ l. l ++ p.tail) (sym (flat_map-append image_of t.before t.after));
-    is_tail = p.is_tail;
-    lawful = All-append IsTapeEntry t.before t.after p.before_is p.after_is;
+    tail = s.tail;
+    whole = is ∙ ap (λ l. images_of before ++ l) s.whole ∙ sym (append_assoc (images_of before) (images_of after) s.tail)
+        ∙ ap (λ l. l ++ s.tail) (sym (flat_map-append image_of before after));
+    is_tail = s.is_tail;
+    lawful = All-append IsTapeEntry before after lawful s.lawful;
   };
-  offset_is = p.offset_is;
-}
-
--- before the place stand the images of the entries before it
-pub front_is : (bytes : List ℕ) (offset : ℕ) (before after : List PlainEntry) → IsParted bytes offset before after → take offset bytes ≡ images_of before
-front_is bytes offset before after p = ap (take offset) p.whole ∙ take_at (images_of before) (images_of after ++ p.tail) offset (sym p.offset_is)
-
--- and from it on those of the others, and the tail
-pub back_is : (bytes : List ℕ) (offset : ℕ) (before after : List PlainEntry) (p : IsParted bytes offset before after)
-    → drop offset bytes ≡ images_of after ++ p.tail
-back_is bytes offset before after p = ap (drop offset) p.whole ∙ drop_at (images_of before) (images_of after ++ p.tail) offset (sym p.offset_is)
-
-pub back_spells : (bytes : List ℕ) (offset : ℕ) (before after : List PlainEntry) → IsParted bytes offset before after → SpellsReel (drop offset bytes) after
-back_spells bytes offset before after p = record { tail = p.tail; whole = back_is bytes offset before after p; is_tail = p.is_tail; lawful = p.after_is }
-
-front_spells : (bytes : List ℕ) (offset : ℕ) (before after : List PlainEntry) → IsParted bytes offset before after → SpellsReel (take offset bytes) before
-front_spells bytes offset before after p = record {
-  tail = [];
-  whole = front_is bytes offset before after p ∙ sym (append-nil (images_of before));
-  is_tail = tail_short [] (omega arith);
-  lawful = p.before_is;
+  offset_is = offset;
 }
 
 -- the tape of a file is that of its bytes and its offset
 pub one_tape : (bytes : List ℕ) (offset : ℕ) (t : Tape) → IsFile bytes offset t → t ≡ tape_in offset bytes
 one_tape bytes offset t f =
-    let p = parted bytes offset t f in
-    ap₂ tape (spells_in (take offset bytes) t.before (front_spells bytes offset t.before t.after p))
-    (spells_in (drop offset bytes) t.after (back_spells bytes offset t.before t.after p))
+    let p = parted f in
+    let front : SpellsReel (take offset bytes) t.before
+    = record { tail = []; whole = p.front ∙ sym (append-nil (images_of t.before)); is_tail = tail_short [] (omega arith); lawful = p.lawful } in
+    ap₂ tape (spells_in (take offset bytes) t.before front) (spells_in (drop offset bytes) t.after p.back)

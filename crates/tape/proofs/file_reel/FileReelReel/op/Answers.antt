@@ -1,5 +1,5 @@
-use Rattle.tape.proofs.Words.{◌≡◌, arith, nat_tests, op_request, Unknown, medium_kind_of}
-use Rattle.tape.proofs.ReelCalls.{nothing_call, unknown_call}
+use Rattle.tape.proofs.Words.{◌≡◌, refl, arith, Nothing, Done, Fault, BadOperation, nat_tests, op_request, Unknown, medium_kind_of}
+use Rattle.tape.proofs.ReelCalls.{none_call}
 use Rattle.tape.proofs.file_reel.FileReelReel.op.Goals as goal
 
 pub returns-in-0 : goal.returns-in-0
@@ -21,10 +21,11 @@ pub returns-in-5 : goal.returns-in-5
 returns-in-5 g c = rw c.in-5.is c.rewind.ensures
 
 pub returns-in-7 : goal.returns-in-7
-returns-in-7 g c = rw c.in-7.is (nothing_call (medium_kind_of g.M.Medium) c.args.self.now)
+returns-in-7 g c =
+    rw c.in-7.is (none_call (medium_kind_of g.M.Medium) c.args.self.now Nothing Done (λ is. cc) (λ is. cc) refl (λ is. refl) (λ t at. refl))
 
 pub returns-in_default : goal.returns-in_default
 returns-in_default g c =
     let h = c.in_default in
     let e : op_request c.args.op c.args.count ≡ Unknown = grind (arith, nat_tests) in
-    rw e (unknown_call (medium_kind_of g.M.Medium) c.args.self.now)
+    rw e (none_call (medium_kind_of g.M.Medium) c.args.self.now Unknown (Fault BadOperation) (λ is. cc) (λ is. cc) refl (λ is. cc) (λ t at. refl))

@@ -1,20 +1,13 @@
-use Rattle.tape.proofs.Words.{◌+◌, ◌==◌, ℕ, arith, subst, sym, ◌∙◌, Tape, IsFile, IsPassed, Forward}
-use Rattle.tape.proofs.MediumRuns.{run_as}
+use Rattle.tape.proofs.Words.{sym, ◌∙◌}
+use Rattle.tape.proofs.MediumRuns.{look}
 use Rattle.tape.proofs.Before.{nothing_ahead}
 use Rattle.tape.proofs.Passing.{next_passed}
 use Rattle.tape.proofs.file_reel.walk.pass_next.Goals as goal
 
 pub returns-in_default-clause-run : goal.returns-in_default-clause-run
-returns-in_default-clause-run g c =
-    run_as c.in_ok-length.ensures.run (λ f. f) (λ f. f) (omega arith)
-    (λ x y held step. (step.0, λ t file. nothing_ahead t.after (sym c.in_default.is ∙ step.1 t file)))
+returns-in_default-clause-run g c = look c.in_ok-length.ensures.run (λ x is t file. nothing_ahead t.after (sym c.in_default.is ∙ is t file))
 
 pub returns-clause-run : goal.returns-clause-run
 returns-clause-run g c =
-    run_as c.in_ok-length.ensures.run (λ f. f) (λ f. f) (omega arith)
-    (λ x y held step. (
-      step.0,
-      λ t file.
-          let P : ℕ → Type 0 = λ k. (u : Tape) × IsFile x (c.args.at + k) u × IsPassed Forward t (c.in-Some.length == 0) u in
-          subst P (sym c.entry_size.ensures) (next_passed x c.args.at c.in-Some.length t.before t.after file (sym c.in-Some.is ∙ step.1 t file)),
-    ))
+    look c.in_ok-length.ensures.run
+    (λ x is t file. rw c.entry_size.ensures (next_passed x c.args.at c.in-Some.length t file (sym c.in-Some.is ∙ is t file)))

@@ -1,28 +1,27 @@
-use Rattle.tape.proofs.Words.{refl, ◌-◌, arith, ahead}
-use Rattle.tape.proofs.MediumRuns.{no_error}
-use Rattle.tape.proofs.Spacing.{records_end}
-use Rattle.tape.proofs.Walks.{goes_on, goes_end, goes_out, mark_stops, record_passes, records_over}
+use Rattle.tape.proofs.Words.{inl, inr, arith, HasWalkedRecords}
+use Rattle.tape.proofs.MediumRuns.{look, look_on}
+use Rattle.tape.proofs.Walks.{goes_on, goes_end, records_on, mark_ends, records_end}
 use Rattle.tape.proofs.file_reel.walk.walk_records.Goals as goal
 
 pub returns-in_default-clause-run : goal.returns-in_default-clause-run
 returns-in_default-clause-run g c =
-    goes_out c.loop-left.invariant.run c.in_ok-passed.ensures.run (λ f. f) (λ f. f) c.in_default.is
-    (λ t is. records_end c.loop-left.left (ahead c.args.way t) is)
+    look_on c.loop-left.invariant.run (rw c.in_default.is at c.in_ok-passed.ensures.run)
+    (λ x goes none. goes_end (HasWalkedRecords c.args.way) _ goes (λ t file. records_end c.loop-left.left file (inr (none t file))))
 
 pub returns-then-passed-clause-run : goal.returns-then-passed-clause-run
 returns-then-passed-clause-run g c =
-    goes_end
-    (goes_on {met_next = λ _. 0} {far_next = λ _. 0} c.loop-left.invariant.run c.in_ok-passed.ensures.run no_error c.in-Some.is
-    (λ t u p. mark_stops c.args.way c.loop-left.left t u c.in-Some.passed.is_mark c.loop-left-test.true c.if-passed.true p))
-    no_error (λ t. refl) (λ t. omega arith)
+    look_on c.loop-left.invariant.run (rw (c.in-Some.is, c.if-passed.true) at c.in_ok-passed.ensures.run)
+    (λ x goes found. goes_end (HasWalkedRecords c.args.way) _ goes (λ t file. let p = found t file in mark_ends c.loop-left-test.true p.2 p.1))
 
 pub loop-left-preserved : goal.loop-left-preserved
 loop-left-preserved g c = record {
-  run = goes_on c.loop-left.invariant.run c.in_ok-passed.ensures.run no_error c.in-Some.is
-      (λ t u p. record_passes c.args.way c.loop-left.left t u c.in-Some.passed.is_mark c.loop-left-test.true c.if-passed.false p);
+  run = look_on c.loop-left.invariant.run (rw c.in-Some.is at c.in_ok-passed.ensures.run)
+      (λ x goes found. goes_on (HasWalkedRecords c.args.way) c.in-Some.passed goes found
+      (λ t u walked p. records_on c.loop-left-test.true (rw c.if-passed.false at p)));
   within = omega arith;
 }
 
 pub returns-clause-run : goal.returns-clause-run
 returns-clause-run g c =
-    goes_end c.loop-left.invariant.run no_error (records_over c.args.way c.loop-left.left (omega arith)) (λ t. omega arith)
+    look c.loop-left.invariant.run (λ x goes. goes_end (HasWalkedRecords c.args.way) _ goes
+    (λ t file. records_end c.loop-left.left file (inl (omega arith))))

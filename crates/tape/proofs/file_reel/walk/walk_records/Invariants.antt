@@ -1,12 +1,12 @@
-use Rattle.tape.proofs.Words.{◌≤◌, medium_kind_of, AreMediumCalls, way_left}
-use Rattle.tape.proofs.Walks.{Goes, records_from, records_far}
+use Rattle.tape.proofs.Words.{◌≡◌, false, true, ◌≤◌, medium_kind_of, AreMediumCalls, HasWalkedRecords, way_left}
+use Rattle.tape.proofs.MediumRuns.{Looks}
+use Rattle.tape.proofs.Walks.{Goes}
 use Rattle.tape.proofs.file_reel.walk.walk_records.Given as goal
 
 abbrev pub invariant-loop-left : goal.invariant-loop-left
 invariant-loop-left g l = record {
-  run : AreMediumCalls (medium_kind_of g.M.Medium)
-      (Goes l.fn.way l.fn.count l.fn.offset l.at l.left (records_from l.fn.way) (records_far l.fn.way l.fn.count)
-      (records_from l.fn.way) (records_far l.fn.way l.left)) 0 ⊥ l.fn.medium l.medium;
+  run : AreMediumCalls (medium_kind_of g.M.Medium) (Looks (Goes (HasWalkedRecords l.fn.way) l.fn.count l.fn.offset l.left l.at)) 0 (false ≡ true)
+      l.fn.medium l.medium;
   within : l.left ≤ l.fn.count;
 }
 

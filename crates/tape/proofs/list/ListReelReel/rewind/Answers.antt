@@ -1,12 +1,9 @@
-use Rattle.tape.proofs.Words.{refl, Rewind, Done}
-use Rattle.tape.proofs.Held.{seen_kept, seen_tape, seen_call}
+use Rattle.tape.proofs.Words.{refl}
+use Rattle.tape.proofs.Held.{seen}
 use Rattle.tape.proofs.list.ListReelReel.rewind.Goals as goal
 
 pub invariant_of-self : goal.invariant_of-self
-invariant_of-self c = seen_kept c.self.inside.reel c.rewind.new.self Rewind Done c.self.invariant c.rewind.ensures
+invariant_of-self c = (seen c.self.invariant c.rewind.ensures refl).0
 
-pub returns-clause-call : goal.returns-clause-call
-returns-clause-call c = rw (← c.self.view_is) (seen_call c.self.inside.reel c.rewind.new.self Rewind Done c.self.invariant c.rewind.ensures refl)
-
-pub returns-clause-step : goal.returns-clause-step
-returns-clause-step c = rw (← c.self.view_is) (seen_tape c.self.inside.reel c.rewind.new.self Rewind Done c.self.invariant c.rewind.ensures)
+pub returns : goal.returns
+returns c = rw (← c.self.view_is) (let s = seen c.self.invariant c.rewind.ensures refl in record { call = s.1; step = s.2 })
