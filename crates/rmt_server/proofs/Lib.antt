@@ -7,7 +7,6 @@ pub mod ServeSteps
 mod Sharing
 mod Sound
 pub mod Spelling
-mod TroubledDrives
 mod TroubledServing
 mod TroubledSteps
 mod Troubles

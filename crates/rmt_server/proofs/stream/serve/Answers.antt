@@ -1,7 +1,21 @@
-use Rattle.rmt_server.proofs.Answering.{served_as}
+use Rattle.std.proofs.Common.{◌∙◌}
+use Rattle.rmt_server.proofs.Answering.{run_seats, run_steps}
 use Rattle.rmt_server.proofs.stream.serve.Goals as goal
 
 pub returns-clause-served : goal.returns-clause-served
 returns-clause-served g c =
     let all = c.converse-ending.ensures.converses in
-    served_as g.R.Read.remaining g.W.Write.contents c.converse-ending.result c.args.input.now c.converse-ending.new.input c.args.output.now c.converse-ending.new.output all.0 all.1 all.2 c.end.ensures
+    let (number, same_seats) = run_seats all.2.run in record {
+      read = all.0;
+      done = all.2.done;
+      rest = all.2.rest;
+      consumed = all.1;
+      ends = all.2.outcome;
+      last = _;
+      run = all.2.run;
+      ended = c.end.ensures;
+      number = c.end.ensures.kept.number ∙ number;
+      same_seats = c.end.ensures.same_seats ∙ same_seats;
+      steps = λ fails shared may share start tells. (
+          let w = run_steps all.2.run fails shared may share start tells in (w.0, w.1, c.end.ensures.step w.0 w.2));
+    }

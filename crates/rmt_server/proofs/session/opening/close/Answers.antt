@@ -11,5 +11,7 @@ give-requires-clause-drive g c = omega (arith, c.requires.below _ (ap drive_of (
 
 pub returns : goal.returns
 returns g c =
-    closed_by (kinds g.H.Holds g.S.Stacks g.S.Reel.Reel) (state c.args.drives.now c.args.session_state.now) _ c.in-Some.device c.requires (sym c.in-Some.ensures.value)
-    c.take.ensures.after c.put_back.ensures c.give.ensures.step c.give.ensures.told c.give.ensures.own c.give.ensures.others c.give.ensures.same_drives c.give.ensures.same_seats
+    closed_by (kinds g.H.Holds g.S.Stacks g.S.Reel.Reel) (state c.args.drives.now c.args.session_state.now) _ c.in-Some.device c.requires
+    (sym c.in-Some.ensures.value)
+    c.take.ensures.after c.put_back.ensures c.give.ensures.step c.give.ensures.told c.give.ensures.own
+    c.give.ensures.others c.give.ensures.same_drives c.give.ensures.same_seats
