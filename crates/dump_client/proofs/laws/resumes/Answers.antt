@@ -1,5 +1,4 @@
-use Rattle.std.proofs.Common.{refl}
-use Rattle.dump_run.specs.Checkpoint.{SpellsCheckpoint, checkpoint_text}
+use Rattle.dump_client.proofs.Attempt.{refl, SpellsCheckpoint, checkpoint_text}
 use Rattle.dump_client.proofs.laws.resumes.Goals as goal
 
 pub returns-clause-alone : goal.returns-clause-alone

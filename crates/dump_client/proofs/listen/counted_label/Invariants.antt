@@ -1,4 +1,4 @@
-use Rattle.std.proofs.Common.{◌≡◌, drop}
+use Rattle.dump_client.proofs.Attempt.{◌≡◌, drop}
 use Rattle.dump_client.specs.Script as script
 use Rattle.dump_client.proofs.listen.counted_label.Given as goal
 

@@ -1,4 +1,4 @@
-use Rattle.std.proofs.Common.{Ok, ap, ◌∙◌}
+use Rattle.dump_client.proofs.Attempt.{Ok, ap, ◌∙◌}
 use Rattle.dump_client.proofs.Listening.{next_none, next_some, next_fault}
 use Rattle.dump_client.proofs.listen.hear.Goals as goal
 

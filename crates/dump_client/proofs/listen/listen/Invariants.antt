@@ -1,6 +1,4 @@
-use Rattle.std.proofs.Common.{◌≤◌, ◌-◌, ◌++◌, ℕ, List, length, take}
-use Rattle.rmt_wire.specs.Reply.{Wanted}
-use Rattle.dump_client.specs.Listening.{IsReaderWaiting}
+use Rattle.dump_client.proofs.Attempt.{◌≤◌, ◌-◌, ◌++◌, ℕ, List, length, take, Wanted, IsReaderWaiting}
 use Rattle.dump_client.proofs.listen.listen.Given as goal
 
 abbrev pub invariant-loop-at : goal.invariant-loop-at

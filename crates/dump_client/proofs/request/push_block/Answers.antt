@@ -1,8 +1,5 @@
-use Rattle.std.proofs.Common.{◌≡◌, ℕ, length, replicate, true, false, inr, refl, sym, ◌∙◌, ap, subst}
-use Rattle.std.proofs.lemmas.List.{length-replicate}
-use Rattle.rmt_wire.specs.Request.PlainRequest.{Write}
-use Rattle.dump_client.specs.Client.{has_failed}
-use Rattle.dump_client.proofs.Requests.{lent_from, length-lent_from, overwritten}
+use Rattle.dump_client.proofs.Attempt.{ℕ, replicate, inr, refl, ◌∙◌, ap, length-replicate, Write}
+use Rattle.dump_client.proofs.Requests.{filled}
 use Rattle.dump_client.proofs.request.push_block.Goals as goal
 
 pub returns-in_default-clause-appended : goal.returns-in_default-clause-appended
@@ -17,43 +14,26 @@ returns-in_default-clause-appended g c =
 pub returns-in-Ok-read-clause-appended : goal.returns-in-Ok-read-clause-appended
 returns-in-Ok-read-clause-appended g c =
     let size = c.block_bytes.ensures.told ∙ ap (λ r. r.block_bytes) c.run.ensures in
-    let lent = c.deref_mut.result.now in
     let given = c.read.new.into in
-    let whole = c.in-Ok.ensures.place ∙ ap length (sym c.deref_mut.ensures.value) ∙ c.deref_mut.ensures.len in
-    let long = c.read.auto.into ∙ length-lent_from _ c.in-Ok.start c.block_bytes.result lent c.deref_mut.ensures.len whole in (
+    let f = filled _ c.in-Ok.start c.block_bytes.result c.deref_mut.result.now c.push_blank.new.out.items given c.deref_mut.ensures.value c.deref_mut.ensures.len
+    c.in-Ok.ensures.place c.read.auto.into in (
       Write given,
-      (λ payload t. ap Write (c.in-Ok-read.ensures.given payload t), (given, refl, long ∙ size)),
-      c.push_blank.ensures.spelled given long,
-      overwritten _ c.in-Ok.start c.block_bytes.result lent c.push_blank.new.out.items given c.deref_mut.ensures.value c.deref_mut.ensures.len whole long ∙ c.in-Ok.ensures.begun given long,
+      (λ payload t. ap Write (c.in-Ok-read.ensures.given payload t), (given, refl, f.1 ∙ size)),
+      c.push_blank.ensures.spelled given f.1,
+      f.2 ∙ c.in-Ok.ensures.begun given f.1,
     )
 
 pub returns-in-Ok-read-clause-read : goal.returns-in-Ok-read-clause-read
 returns-in-Ok-read-clause-read g c =
     let size = c.block_bytes.ensures.told ∙ ap (λ r. r.block_bytes) c.run.ensures in
-    let lent = c.deref_mut.result.now in
     let given = c.read.new.into in
-    let whole = c.in-Ok.ensures.place ∙ ap length (sym c.deref_mut.ensures.value) ∙ c.deref_mut.ensures.len in
-    let room = length-lent_from _ c.in-Ok.start c.block_bytes.result lent c.deref_mut.ensures.len whole in
-    let long = c.read.auto.into ∙ room in (
-      lent_from c.in-Ok.start lent,
-      given,
-      c.read.result,
-      room ∙ size,
-      c.read.ensures.read,
-      subst (λ r. false ≡ has_failed r) (sym c.in-Ok-read.is) refl,
-      overwritten _ c.in-Ok.start c.block_bytes.result lent c.push_blank.new.out.items given c.deref_mut.ensures.value c.deref_mut.ensures.len whole long ∙ c.in-Ok.ensures.begun given long,
-    )
+    let f = filled _ c.in-Ok.start c.block_bytes.result c.deref_mut.result.now c.push_blank.new.out.items given c.deref_mut.ensures.value c.deref_mut.ensures.len
+    c.in-Ok.ensures.place c.read.auto.into in
+    (_, given, c.read.result, f.0 ∙ size, c.read.ensures.read, rw c.in-Ok-read.is refl, f.2 ∙ c.in-Ok.ensures.begun given f.1)
 
 pub returns-in-Err-clause-read : goal.returns-in-Err-clause-read
 returns-in-Err-clause-read g c =
     let size = c.block_bytes.ensures.told ∙ ap (λ r. r.block_bytes) c.run.ensures in
-    let lent = c.deref_mut.result.now in
-    let whole = c.in-Ok.ensures.place ∙ ap length (sym c.deref_mut.ensures.value) ∙ c.deref_mut.ensures.len in (
-      lent_from c.in-Ok.start lent,
-      c.read.new.into,
-      c.read.result,
-      length-lent_from _ c.in-Ok.start c.block_bytes.result lent c.deref_mut.ensures.len whole ∙ size,
-      c.read.ensures.read,
-      subst (λ r. true ≡ has_failed r) (sym c.in-Err.is) refl,
-      tt,
-    )
+    let f = filled _ c.in-Ok.start c.block_bytes.result c.deref_mut.result.now c.push_blank.new.out.items c.read.new.into c.deref_mut.ensures.value c.deref_mut.ensures.len
+    c.in-Ok.ensures.place c.read.auto.into in
+    (_, c.read.new.into, c.read.result, f.0 ∙ size, c.read.ensures.read, rw c.in-Err.is refl, tt)

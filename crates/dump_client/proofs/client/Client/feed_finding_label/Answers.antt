@@ -1,7 +1,4 @@
-use Rattle.std.proofs.Common.{arith, ◌++◌, refl, Some, None, Ok, Err}
-use Rattle.std.proofs.lemmas.Grind.{common_steps}
-use Rattle.dump_client.specs.Script.{wanted_of}
-use Rattle.dump_client.specs.Client.{unanswered}
+use Rattle.dump_client.proofs.Attempt.{arith, ◌++◌, refl, Some, None, Ok, Err, common_steps, wanted_of, unanswered}
 use Rattle.dump_client.proofs.Feeding.{fed_made, waiting_at, heard_finds}
 use Rattle.dump_client.proofs.client.Client.feed_finding_label.Goals as goal
 

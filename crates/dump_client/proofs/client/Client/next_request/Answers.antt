@@ -1,5 +1,4 @@
-use Rattle.std.proofs.Common.{[], arith, rules}
-use Rattle.std.proofs.lemmas.Grind.{common_steps}
+use Rattle.dump_client.proofs.Attempt.{[], arith, rules, common_steps}
 use Rattle.dump_client.proofs.Listening.{waiting_anew}
 use Rattle.dump_client.proofs.client.Client.next_request.Goals as goal
 

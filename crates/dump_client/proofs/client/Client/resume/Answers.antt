@@ -1,5 +1,4 @@
-use Rattle.std.proofs.Common.{rules, ◌∙◌}
-use Rattle.dump_run.specs.Checkpoint.{SpellsCheckpoint}
+use Rattle.dump_client.proofs.Attempt.{rules, ◌∙◌, SpellsCheckpoint}
 use Rattle.dump_client.proofs.client.Client.resume.Goals as goal
 
 pub returns-in-Ok-clause-resumes : goal.returns-in-Ok-clause-resumes

@@ -1,7 +1,4 @@
-use Rattle.std.proofs.Common.{sym, ◌∙◌, ap, subst}
-use Rattle.dump_client.specs.Lawful.{OutcomeFits}
-use Rattle.dump_client.specs.Position.{after_reply}
-use Rattle.dump_client.specs.Standing.{checkpoint_of}
+use Rattle.dump_client.proofs.Attempt.{sym, ◌∙◌, ap, subst, OutcomeFits, after_reply, checkpoint_of}
 use Rattle.dump_client.proofs.Going.{reply_at, reply_summary}
 use Rattle.dump_client.proofs.ledger.Ledger.reply.Goals as goal
 
