@@ -1,5 +1,5 @@
 -- An open whose latch is refused.
-use Rattle.std.proofs.Common.{◌≡◌, ℕ, List, Some, Err, refl, ap, inl, inr, arith}
+use Rattle.std.proofs.Common.{◌≡◌, ℕ, List, Some, Err, refl, ap, arith}
 use Rattle.std.proofs.lemmas.Bool.Decides.{nat_tests}
 use Rattle.drives.proofs.Names.{DriveFault, NoSuchDrive, Busy, NameTaken, View, given, taken, last_drive, holder_after_take, holder_after_give, TapeLibrary}
 use Rattle.drives.proofs.Names.{IsDriveNamed, Latch, IsStacksCall, Kinds, SeatStep, drive_asked, found_in_open, OpenStep, LatchesFor, Steps}
@@ -15,9 +15,9 @@ pub record IsRefused {H S Seat R : Type 0} (k : Kinds H Seat S R) (view view' : 
 pub latch_refused : {H S Seat R : Type 0} (k : Kinds H Seat S R) (view view' : View) (name : List ℕ) (old new : S) (d : ℕ) (fault : DriveFault)
     → view' ≡ given (taken view d 0) d → ((s : TapeLibrary) → k.stacks.holds old s → IsDriveNamed name s (Some d))
     → IsStacksCall k.stacks k.reels old (Latch d (Err fault)) new → IsRefused k view view' name old new d fault
-latch_refused k view view' name old new d NoSuchDrive v named call = elim call.can [ inl e ↦ absurd cc | inr (inl e) ↦ absurd cc | inr (inr (inl e)) ↦ absurd cc | inr (inr (inr e)) ↦ absurd cc ]
-latch_refused k view view' name old new d (Busy n) v named call = elim call.can [ inl e ↦ absurd cc | inr (inl e) ↦ absurd cc | inr (inr (inl e)) ↦ absurd cc | inr (inr (inr e)) ↦ absurd cc ]
-latch_refused k view view' name old new d NameTaken v named call = elim call.can [ inl e ↦ absurd cc | inr (inl e) ↦ absurd cc | inr (inr (inl e)) ↦ absurd cc | inr (inr (inr e)) ↦ absurd cc ]
+latch_refused k view view' name old new d NoSuchDrive v named call = absurd (grind (arith, call.can))
+latch_refused k view view' name old new d (Busy n) v named call = absurd (grind (arith, call.can))
+latch_refused k view view' name old new d NameTaken v named call = absurd (grind (arith, call.can))
 latch_refused k view view' name old new d _ v named call =
     let last : last_drive view' ≡ Some d = ap last_drive v in
     record { seat = (d, v); asked = last; found = refl; step = λ s h. (let n = call.step s h in (n.0, n.1, (d, last, named s h, n.2))); call = (d, last, call) }

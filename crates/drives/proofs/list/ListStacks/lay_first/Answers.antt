@@ -1,5 +1,4 @@
-use Rattle.drives.proofs.Names.{EachReelOnce, library, ListLibrary, the_view}
-use Rattle.std.proofs.Common.{◌<◌, length, Some, sym, subst}
+use Rattle.drives.proofs.Names.{Some, library, the_view}
 use Rattle.drives.proofs.Elsewhere.{value_some}
 use Rattle.drives.proofs.ListLibrary.{stocked_first, read_some}
 use Rattle.drives.proofs.list.ListStacks.lay_first.Goals as goal
@@ -12,7 +11,7 @@ unlatch-requires c =
 pub invariant_of-self : goal.invariant_of-self
 invariant_of-self c =
     stocked_first (library c.self.inside.drives.items c.self.inside.bin.items) c.args.drive c.index_mut-chosen.result.now c.unlatch.new.self (Some c.args.reel) _ _
-    (subst (λ (s : ListLibrary). c.args.drive < length s.library.drives) (sym c.self.view_is) c.requires.drive) c.index_mut-chosen.ensures.value c.unlatch.ensures c.self.invariant
+    (rw (← c.self.view_is) at c.requires.drive) c.index_mut-chosen.ensures.value c.unlatch.ensures c.self.invariant
 
 pub returns-clause-once : goal.returns-clause-once
-returns-clause-once c = subst (λ (s : ListLibrary). EachReelOnce s.library) c.self.view_is c.self.invariant.once
+returns-clause-once c = rw (← c.self.view_is) c.self.invariant.once

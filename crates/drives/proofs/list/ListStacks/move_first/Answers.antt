@@ -1,4 +1,4 @@
-use Rattle.drives.proofs.Names.{EachReelOnce, ListLibrary, the_view}
+use Rattle.drives.proofs.Names.{the_view}
 use Rattle.std.proofs.Common.{◌<◌, vec_capacity, sym, subst, ap, ◌∙◌, ◌++◌, ◌∷◌, []}
 use Rattle.drives.proofs.Elsewhere.{value_some}
 use Rattle.drives.proofs.ListLibrary.{stocked_moved, read_some, room_some}
@@ -22,7 +22,7 @@ invariant_of-self c =
     (c.push_reserved.ensures.items ∙ ap (λ x. c.self.inside.bin.items ++ x ∷ []) c.put.ensures) c.push_reserved.ensures.capacity c.self.invariant
 
 pub returns-then-self-clause-once : goal.returns-then-self-clause-once
-returns-then-self-clause-once c = subst (λ (s : ListLibrary). EachReelOnce s.library) c.self.view_is c.self.invariant.once
+returns-then-self-clause-once c = rw (← c.self.view_is) c.self.invariant.once
 
 pub returns-clause-once : goal.returns-clause-once
-returns-clause-once c = subst (λ (s : ListLibrary). EachReelOnce s.library) c.self.view_is c.self.invariant.once
+returns-clause-once c = rw (← c.self.view_is) c.self.invariant.once

@@ -1,23 +1,22 @@
-use Rattle.drives.proofs.Names.{EachReelOnce, library, ListLibrary}
-use Rattle.std.proofs.Common.{◌<◌, length, None, sym, subst}
+use Rattle.drives.proofs.Names.{None, library}
 use Rattle.drives.proofs.ListLibrary.{stocked_first}
 use Rattle.drives.proofs.list.ListStacks.take_first.Goals as goal
 
 pub invariant_of-self : goal.invariant_of-self
 invariant_of-self c =
     stocked_first (library c.self.inside.drives.items c.self.inside.bin.items) c.args.drive c.index_mut-chosen.result.now c.latch.new.self None _ _
-    (subst (λ (s : ListLibrary). c.args.drive < length s.library.drives) (sym c.self.view_is) c.requires) c.index_mut-chosen.ensures.value c.latch.ensures.away c.self.invariant
+    (rw (← c.self.view_is) at c.requires) c.index_mut-chosen.ensures.value c.latch.ensures.away c.self.invariant
 
 pub invariant_of-self-2 : goal.invariant_of-self-2
 invariant_of-self-2 c =
     stocked_first (library c.self.inside.drives.items c.self.inside.bin.items) c.args.drive c.index_mut-chosen.result.now c.latch.new.self None _ _
-    (subst (λ (s : ListLibrary). c.args.drive < length s.library.drives) (sym c.self.view_is) c.requires) c.index_mut-chosen.ensures.value c.latch.ensures.away c.self.invariant
+    (rw (← c.self.view_is) at c.requires) c.index_mut-chosen.ensures.value c.latch.ensures.away c.self.invariant
 
 pub returns-then-is_ready-clause-once : goal.returns-then-is_ready-clause-once
-returns-then-is_ready-clause-once c = subst (λ (s : ListLibrary). EachReelOnce s.library) c.self.view_is c.self.invariant.once
+returns-then-is_ready-clause-once c = rw (← c.self.view_is) c.self.invariant.once
 
 pub returns-in_default-clause-once : goal.returns-in_default-clause-once
-returns-in_default-clause-once c = subst (λ (s : ListLibrary). EachReelOnce s.library) c.self.view_is c.self.invariant.once
+returns-in_default-clause-once c = rw (← c.self.view_is) c.self.invariant.once
 
 pub returns-clause-once : goal.returns-clause-once
-returns-clause-once c = subst (λ (s : ListLibrary). EachReelOnce s.library) c.self.view_is c.self.invariant.once
+returns-clause-once c = rw (← c.self.view_is) c.self.invariant.once
