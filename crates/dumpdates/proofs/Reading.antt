@@ -1,70 +1,71 @@
 -- Lines that are read one after another.
-use Rattle.std.proofs.Common.{◌≡◌, ℕ, ◌+◌, ◌<◌, not, eqb, List, [], ◌∷◌, ◌++◌, length, take, drop, refl, sym, ap, ◌∙◌, subst, arith, append_assoc, length-append, inl, inr}
-use Rattle.dumpdates.proofs.Terms.{position_or_len, cases_lt, take_all, slice_split_first, slice_split_none, fails_before_first, prefix_len-le-length, DatesEntry, IsAdded, IsLineRefused, lines_of}
-use Rattle.dumpdates.proofs.Terms.{SpellLines, SpellsDates, HasDatesFault, line_feed, DatesFault, BadLine, BadDate, OutOfMemory}
+use Rattle.dumpdates.proofs.Terms.{◌≡◌, ℕ, ◌+◌, ◌<◌, not, eqb, List, [], ◌∷◌, ◌++◌, length, take, drop, refl, sym, ap, ◌∙◌, arith, append_assoc, length-append, inl, inr, position_or_len, cases_lt, take_all, append-nil, slice_split_first}
+use Rattle.dumpdates.proofs.Terms.{slice_split_none, fails_before_first, prefix_len-le-length, DatesEntry, IsAdded, IsReached, lines_of, SpellLines, SpellsDates, line_feed, IsLineRefused, HasDatesFault, IsBadLine, IsBadDate, IsEntryLine, DatesFault}
+use Rattle.dumpdates.proofs.Terms.{BadLine, BadDate, OutOfMemory}
 
--- the lines before the rest are these entries, and the first of the rest has this number
-pub record HasRead (bytes rest : List ℕ) (number : ℕ) (entries : List DatesEntry) : Type 0 where
+-- the lines before `lines` spell `entries`, and the first of `lines` has this number
+pub record HasRead (bytes : List ℕ) (lines : List (List ℕ)) (number : ℕ) (entries : List DatesEntry) : Type 0 where
   pub before : List (List ℕ)
-  pub split : lines_of bytes ≡ before ++ lines_of rest
+  pub split : lines_of bytes ≡ before ++ lines
   pub count : number ≡ length before + 1
   pub good : SpellLines before entries
 
+-- one line more
+good_more : (before : List (List ℕ)) (line : List ℕ) (old new : List DatesEntry) → SpellLines before old → IsAdded line old new
+    → SpellLines (before ++ line ∷ []) new
+good_more [] line old new good (inl blank) = inl (blank.0, blank.1 ∙ good)
+good_more [] line old new good (inr entry) = inr (entry.0, [], entry.1, entry.2 ∙ ap (λ o. o ++ entry.0 ∷ []) good, refl)
+good_more (first ∷ before) line old new (inl blank) added = inl (blank.0, good_more before line old new blank.1 added)
+good_more (first ∷ before) line old new (inr (e, later, is, old_is, good)) (inl blank) =
+    inr (e, later, is, blank.1 ∙ old_is, good_more before line later later good (inl (blank.0, refl)))
+good_more (first ∷ before) line old new (inr (e, later, is, old_is, good)) (inr (d, spelled, new_is)) =
+    inr (e, later ++ d ∷ [], is, rw old_is at new_is, good_more before line later (later ++ d ∷ []) good (inr (d, spelled, refl)))
+
+module _ {bytes line : List ℕ} {lines : List (List ℕ)} {number : ℕ} {old : List DatesEntry} (h : HasRead bytes (line ∷ lines) number old) where
+  pub line_read : {new : List DatesEntry} → IsAdded line old new → HasRead bytes lines (number + 1) new
+  line_read {new} added = record {
+    before = h.before ++ line ∷ [];
+    split = h.split ∙ sym (append_assoc h.before (line ∷ []) lines);
+    count = omega (arith, h.count, length-append h.before (line ∷ []));
+    good = good_more h.before line old new h.good added;
+  }
+
+  -- the line is of this kind, and all lines before it are blank or entries
+  pub reached : (Kind : List ℕ → Type 0) → Kind line → IsReached Kind bytes number
+  reached Kind kind =
+      record { before = h.before; line = line; after = lines; entries = old; split = h.split; number = h.count; good = h.good; kind = kind }
+
+pub all_read : {bytes : List ℕ} {number : ℕ} {entries : List DatesEntry} → HasRead bytes [] number entries → SpellsDates bytes entries
+all_read h = rw (h.split, append-nil h.before) h.good
+
 -- the first line of a text
-pub first_line : (text : List ℕ) (len : ℕ) → len ≡ position_or_len (λ b. eqb b line_feed) text → len < length text
+first_line : (text : List ℕ) (len : ℕ) → len ≡ position_or_len (λ b. eqb b line_feed) text → len < length text
     → lines_of text ≡ take len text ∷ lines_of (drop (len + 1) text)
-first_line text len is within =
-    let first : position_or_len (λ b. eqb b line_feed) text < length text = rw is at within in
-    rw is (slice_split_first (λ b. eqb b line_feed) text 0 first)
+first_line text len is within = rw is (slice_split_first (λ b. eqb b line_feed) text 0 (rw is at within))
 
 -- a text that is one line
-pub only_line : (text : List ℕ) (len : ℕ) → len ≡ position_or_len (λ b. eqb b line_feed) text → len ≡ length text → lines_of text ≡ take len text ∷ []
+only_line : (text : List ℕ) (len : ℕ) → len ≡ position_or_len (λ b. eqb b line_feed) text → len ≡ length text → lines_of text ≡ take len text ∷ []
 only_line text len is all =
     slice_split_none (λ b. eqb b line_feed) text (λ k d h. fails_before_first (λ b. eqb b line_feed) text k d (omega arith))
     ∙ ap (λ t. t ∷ []) (sym (take_all len text (omega arith)))
 
-some_line : (text : List ℕ) (len : ℕ) → len ≡ position_or_len (λ b. eqb b line_feed) text → (after : List (List ℕ)) × (lines_of text ≡ take len text ∷ after)
-some_line text len is =
-    let few = prefix_len-le-length (λ b. not (eqb b line_feed)) text in
-    elim (cases_lt len (length text)) [
-      | inl lt ↦ (lines_of (drop (len + 1) text), first_line text len is lt)
-      | inr ge ↦ ([], only_line text len is (omega arith))
-    ]
+some_line : (text : List ℕ) (len : ℕ) → len ≡ position_or_len (λ b. eqb b line_feed) text
+    → (after : List (List ℕ)) × (lines_of text ≡ take len text ∷ after)
+some_line text len is = elim (cases_lt len (length text)) [
+  | inl lt ↦ (lines_of (drop (len + 1) text), first_line text len is lt)
+  | inr ge ↦ ([], only_line text len is (omega (arith, prefix_len-le-length (λ b. not (eqb b line_feed)) text)))
+]
 
--- one line more
-pub good_more : (before : List (List ℕ)) (line : List ℕ) (old new : List DatesEntry) → SpellLines before old → IsAdded line old new → SpellLines (before ++ line ∷ []) new
-good_more [] line old new good (inl blank) = inl (blank.0, blank.1 ∙ good)
-good_more [] line old new good (inr entry) = inr (entry.0, [], entry.1, entry.2 ∙ ap (λ o. o ++ entry.0 ∷ []) good, refl)
-good_more (first ∷ before) line old new (inl blank) added = inl (blank.0, good_more before line old new blank.1 added)
-good_more (first ∷ before) line old new (inr entry) (inl blank) =
-    inr (entry.0, entry.1, entry.2, blank.1 ∙ entry.3, good_more before line entry.1 entry.1 entry.4 (inl (blank.0, refl)))
-good_more (first ∷ before) line old new (inr entry) (inr last) =
-    inr (entry.0, entry.1 ++ last.0 ∷ [], entry.2, last.2 ∙ ap (λ o. o ++ last.0 ∷ []) entry.3, good_more before line entry.1 (entry.1 ++ last.0 ∷ []) entry.4 (inr (last.0, last.1, refl)))
+-- The first line of the rest of a text is refused, or is read as the last one, or is read and others follow.
+module _ (rest : List ℕ) {bytes : List ℕ} {number len : ℕ} {old : List DatesEntry} (h : HasRead bytes (lines_of rest) number old) (is : len ≡ position_or_len (λ b. eqb b line_feed) rest) where
+  pub line_refused : (fault : DatesFault) → IsLineRefused (take len rest) number fault → HasDatesFault bytes fault
+  line_refused (BadLine k) r = rw r.0 (reached (rw (some_line rest len is).1 at h) IsBadLine r.1)
+  line_refused (BadDate k) r = rw r.0 (reached (rw (some_line rest len is).1 at h) IsBadDate r.1)
+  line_refused OutOfMemory r = (number, reached (rw (some_line rest len is).1 at h) IsEntryLine r)
 
-pub line_read : (bytes rest : List ℕ) (number len : ℕ) (old new : List DatesEntry) → HasRead bytes rest number old
-    → len ≡ position_or_len (λ b. eqb b line_feed) rest → len < length rest → IsAdded (take len rest) old new → HasRead bytes (drop (len + 1) rest) (number + 1) new
-line_read bytes rest number len old new h is within added =
-    record {
-      before = h.before ++ take len rest ∷ [];
-      split = h.split ∙ ap (λ l. h.before ++ l) (first_line rest len is within) ∙ sym (append_assoc h.before (take len rest ∷ []) (lines_of (drop (len + 1) rest)));
-      count = (let c = h.count in omega (arith, length-append h.before (take len rest ∷ [])));
-      good = good_more h.before (take len rest) old new h.good added;
-    }
+  pub last_read : (new : List DatesEntry) → len ≡ length rest → IsAdded (take len rest) old new → SpellsDates bytes new
+  last_read new all added = all_read (line_read (rw (only_line rest len is all) at h) added)
 
-pub all_read : (bytes rest : List ℕ) (number len : ℕ) (old new : List DatesEntry) → HasRead bytes rest number old
-    → len ≡ position_or_len (λ b. eqb b line_feed) rest → len ≡ length rest → IsAdded (take len rest) old new → SpellsDates bytes new
-all_read bytes rest number len old new h is all added =
-    let lines : lines_of bytes ≡ h.before ++ take len rest ∷ [] = h.split ∙ ap (λ l. h.before ++ l) (only_line rest len is all) in
-    subst (λ l. SpellLines l new) (sym lines) (good_more h.before (take len rest) old new h.good added)
-
-pub line_refused : (bytes rest : List ℕ) (number len : ℕ) (old : List DatesEntry) (fault : DatesFault) → HasRead bytes rest number old
-    → len ≡ position_or_len (λ b. eqb b line_feed) rest → IsLineRefused (take len rest) number fault → HasDatesFault bytes fault
-line_refused bytes rest number len old (BadLine k) h is r =
-    let some = some_line rest len is in
-    record { before = h.before; line = take len rest; after = some.0; entries = old; split = h.split ∙ ap (λ l. h.before ++ l) some.1; number = r.0 ∙ h.count; good = h.good; kind = r.1 }
-line_refused bytes rest number len old (BadDate k) h is r =
-    let some = some_line rest len is in
-    record { before = h.before; line = take len rest; after = some.0; entries = old; split = h.split ∙ ap (λ l. h.before ++ l) some.1; number = r.0 ∙ h.count; good = h.good; kind = r.1 }
-line_refused bytes rest number len old OutOfMemory h is r =
-    let some = some_line rest len is in
-    (number, record { before = h.before; line = take len rest; after = some.0; entries = old; split = h.split ∙ ap (λ l. h.before ++ l) some.1; number = h.count; good = h.good; kind = r })
+  pub next_read : (new : List DatesEntry) → len < length rest → IsAdded (take len rest) old new
+      → HasRead bytes (lines_of (drop (len + 1) rest)) (number + 1) new
+  next_read new more added = line_read (rw (first_line rest len is more) at h) added

@@ -1,6 +1,5 @@
 -- A time of day, as the eight bytes that it is written with.
-use Rattle.std.proofs.Common.{◌≡◌, ℕ, List, [], ◌∷◌, ◌++◌, length, get_or, take, drop, refl, sym, arith, subst}
-use Rattle.dumpdates.proofs.Terms.{SpellsDigits, SpellsTime, colon}
+use Rattle.dumpdates.proofs.Terms.{◌≡◌, ℕ, List, [], ◌∷◌, ◌++◌, length, get_or, take, drop, refl, arith, SpellsDigits, SpellsTime, colon}
 
 -- two colons among eight bytes, and two digits in each part
 pub record IsTime (word : List ℕ) (h m s : ℕ) : Type 0 where
@@ -18,18 +17,16 @@ joined_is_time (a ∷ b ∷ []) (c ∷ d ∷ []) (e ∷ f ∷ []) h m s x y z =
 joined_is_time hours minutes seconds h m s x y z = let a = x.count in let b = y.count in let c = z.count in absurd (omega arith)
 
 pub spelled_is_time : (word : List ℕ) (h m s : ℕ) → SpellsTime word h m s → IsTime word h m s
-spelled_is_time word h m s t =
-    subst (λ w. IsTime w h m s) (sym t.joined) (joined_is_time t.hours t.minutes t.seconds h m s t.hour t.minute t.second)
+spelled_is_time word h m s t = rw t.joined (joined_is_time t.hours t.minutes t.seconds h m s t.hour t.minute t.second)
 
 pub time_spelled : (word : List ℕ) (h m s : ℕ) → IsTime word h m s → SpellsTime word h m s
-time_spelled (a ∷ b ∷ x ∷ c ∷ d ∷ y ∷ e ∷ f ∷ []) h m s t =
-    record {
-      hours = a ∷ b ∷ [];
-      minutes = c ∷ d ∷ [];
-      seconds = e ∷ f ∷ [];
-      hour = t.hour;
-      minute = t.minute;
-      second = t.seconds;
-      joined = rw (t.first, t.second) refl;
-    }
-time_spelled word h m s t = let long = t.long in absurd (omega arith)
+time_spelled (a ∷ b ∷ x ∷ c ∷ d ∷ y ∷ e ∷ f ∷ []) h m s t = record {
+  hours = a ∷ b ∷ [];
+  minutes = c ∷ d ∷ [];
+  seconds = e ∷ f ∷ [];
+  hour = t.hour;
+  minute = t.minute;
+  second = t.seconds;
+  joined = rw (t.first, t.second) refl;
+}
+time_spelled word h m s t = absurd (omega (arith, t.long))

@@ -1,5 +1,4 @@
-use Rattle.std.proofs.Common.{◌≡◌, ◌≤◌, length, take}
-use Rattle.dumpdates.proofs.Terms.{AllDigits, digits_value}
+use Rattle.dumpdates.proofs.Terms.{◌≡◌, ◌≤◌, length, take, AllDigits, digits_value}
 use Rattle.dumpdates.proofs.fields.number.Given as goal
 
 -- the digits so far and their value

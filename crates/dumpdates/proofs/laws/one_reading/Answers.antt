@@ -9,7 +9,7 @@ pub returns-clause-within : goal.returns-clause-within
 returns-clause-within c = spelled_entries
 
 pub returns-clause-entries : goal.returns-clause-entries
-returns-clause-entries c = one_text
+returns-clause-entries c = λ bytes entries others s t. one_text bytes entries s others t
 
 pub returns-clause-no_fault : goal.returns-clause-no_fault
 returns-clause-no_fault c = spelled_no_fault

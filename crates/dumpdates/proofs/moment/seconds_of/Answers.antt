@@ -1,14 +1,11 @@
-use Rattle.std.proofs.Common.{arith, rules, pos, ◌≤ℤ◌, refl, ◌∙◌, w8, w16}
+use Rattle.dumpdates.proofs.Terms.{arith, rules, pos, ◌≤ℤ◌, refl, ◌∙◌, w8, w16, days_in_month_bounds, signed_casts}
 use mir.Facts.{to_z_pos}
-use Rattle.dumpdates.proofs.Terms.{days_in_month_bounds, signed_casts, epoch_day}
 use Rattle.dumpdates.proofs.Days.{civil_of, epoch_day_from_1970}
 use Rattle.dumpdates.proofs.moment.seconds_of.Goals as goal
 
 pub overflow_cast-days : goal.overflow_cast-days
 overflow_cast-days c =
-    let later : pos 1970 ≤ℤ c.in-Ok.date.year = search rules in
-    let from : pos 0 ≤ℤ epoch_day c.in-Ok.date = epoch_day_from_1970 c.in-Ok.date later in
-    search (rules, signed_casts)
+    let later : pos 1970 ≤ℤ c.in-Ok.date.year = search rules in let from = epoch_day_from_1970 c.in-Ok.date later in search (rules, signed_casts)
 
 pub returns-clause-given : goal.returns-clause-given
 returns-clause-given c = (
@@ -24,22 +21,8 @@ returns-clause-given c = (
 )
 
 pub returns-then-year-lt1970-clause-given : goal.returns-then-year-lt1970-clause-given
-returns-then-year-lt1970-clause-given c = (
-  λ some. absurd cc,
-  λ m.
-      let at = c.args.moment in
-      let long = days_in_month_bounds (pos at.year) at.month in
-      let year = m.year in
-      let day = m.day in
-      absurd (omega arith),
-)
+returns-then-year-lt1970-clause-given c =
+    let long = days_in_month_bounds (pos c.args.moment.year) c.args.moment.month in (λ some. absurd cc, λ m. absurd (omega arith))
 
 pub returns-then-hour-gt23-clause-given : goal.returns-then-hour-gt23-clause-given
-returns-then-hour-gt23-clause-given c = (
-  λ some. absurd cc,
-  λ m.
-      let hour = m.hour in
-      let minute = m.minute in
-      let second = m.second in
-      absurd (omega arith),
-)
+returns-then-hour-gt23-clause-given c = (λ some. absurd cc, λ m. absurd (omega arith))

@@ -1,5 +1,4 @@
-use Rattle.std.proofs.Common.{◌≡◌, ◌+◌, ◌%◌, arith, pos}
-use Rattle.dumpdates.proofs.Terms.{weekday_number, weekday_number-parts, signed_arith, weekday_name}
+use Rattle.dumpdates.proofs.Terms.{◌≡◌, ◌+◌, ◌%◌, arith, pos, weekday_number, weekday_number-parts, signed_arith, weekday_name}
 use Rattle.dumpdates.proofs.Naming.{now_at}
 use Rattle.dumpdates.proofs.names.weekday_name.Goals as goal
 

@@ -1,5 +1,4 @@
-use Rattle.std.proofs.Common.{◌≡◌, ◌++◌, take}
-use Rattle.dumpdates.proofs.Terms.{plain_all, written}
+use Rattle.dumpdates.proofs.Terms.{◌≡◌, ◌++◌, take, plain_all, written}
 use Rattle.dumpdates.proofs.writer.push_lines.Given as goal
 
 -- the lines of the entries so far

@@ -1,5 +1,4 @@
-use Rattle.std.proofs.Common.{◌≡◌, max, drop}
-use Rattle.dumpdates.proofs.Terms.{base_of, plain_all}
+use Rattle.dumpdates.proofs.Terms.{◌≡◌, max, drop, base_of, plain_all}
 use Rattle.dumpdates.proofs.dates.Dates.base.Given as goal
 
 -- the greatest so far and the rest give the base date
