@@ -1,9 +1,9 @@
 -- The lines of a label, one after the other, as they are read.
-use Rattle.dump_run.proofs.Words.{AllByRecursion, IsInRange, decimal_injective, append-nil, length-replicate, IsName, IsRun, plain_run, PlainLabel, IsLabel, label_record, plain_label, FindsLabel, lines_of, joined, NoFeed, FindsNumber}
-use Rattle.std.proofs.Common.{◌≡◌, ◌≢◌, ℕ, suc, ◌-◌, ◌<◌, ◌≤◌, ◌^◌, List, [], ◌∷◌, ◌++◌, codes, length, drop, replicate, decimal, None, true, refl, sym, ap, ◌∙◌, append_assoc, length-append, arith}
-use Rattle.dump_run.proofs.FieldCut.{name_lacks, lacks_append, is_clean, word_lacks, number_lacks, same_begun}
+use Rattle.dump_run.proofs.Words.{AllByRecursion, IsInRange, append-nil, length-replicate, IsName, PlainLabel, IsLabel, label_record, plain_label, FindsLabel, lines_of, joined, NoFeed, FindsNumber, ◌≡◌, ◌≢◌, ℕ, suc, ◌-◌, ◌<◌, ◌≤◌, ◌^◌, List, [], ◌∷◌, ◌++◌, codes, length, drop, replicate, decimal}
+use Rattle.dump_run.proofs.Words.{None, true, refl, sym, ap, ◌∙◌, append_assoc, length-append, arith}
+use Rattle.dump_run.proofs.FieldCut.{value_of, name_lacks, lacks_append, is_clean, word_lacks, number_lacks, same_begun}
 use Rattle.dump_run.proofs.ReadLines.{joined_more}
-use Rattle.dump_run.proofs.LabelText.{length_label}
+use Rattle.dump_run.proofs.LabelText.{line_number_is_short}
 
 -- the lines of a label, without the line feeds
 abbrev label_list : PlainLabel → List (List ℕ)
@@ -23,13 +23,7 @@ pub record AreSmall (l : PlainLabel) : Type 0 where
   pub first : l.first < 2 ^ 64
 
 pub are_small : (l : PlainLabel) → IsLabel l → AreSmall l
-are_small l its =
-    let level = its.level in
-    let date = its.date in
-    let since = its.since in
-    let volume = its.volume.1 in
-    let first = its.first in
-    record { level = omega (arith, level); date = omega (arith, date); since = omega (arith, since); volume = omega (arith, volume); first = omega (arith, first) }
+are_small l its = grind (arith, its)
 
 label_lacks : (l : PlainLabel) → IsLabel l → AllByRecursion NoFeed (label_list l)
 label_lacks l its =
@@ -40,7 +34,7 @@ label_lacks l its =
     let since = number_lacks (codes "since ") l.since refl small.since in
     let volume = number_lacks (codes "volume ") l.volume refl small.volume in
     let first = number_lacks (codes "first ") l.first refl small.first in
-    (name, (level, (date, (since, (volume, (first, tt))))))
+    assumption (name, level, date, since, volume, first)
 
 -- Lines of the bytes were read, no line feed is in them, and this is left.
 pub record IsReached (bytes left : List ℕ) (read : List (List ℕ)) : Type 0 where
@@ -79,34 +73,19 @@ one_text l m x y its others is =
     let few = are_small l its in
     let small = are_small m others in
     let begun = same_begun (label_list l) (label_list m) x y (label_lacks l its) (label_lacks m others) (omega arith) (sym (joined_list l x) ∙ is ∙ joined_list m y) in
-    let lines : label_list l ≡ label_list m = begun.0 in
-    let level : l.level ≡ m.level = decimal_injective l.level m.level few.level small.level (cc) in
-    let date : l.date ≡ m.date = decimal_injective l.date m.date few.date small.date (cc) in
-    let since : l.since ≡ m.since = decimal_injective l.since m.since few.since small.since (cc) in
-    let volume : l.volume ≡ m.volume = decimal_injective l.volume m.volume few.volume small.volume (cc) in
-    let first : l.first ≡ m.first = decimal_injective l.first m.first few.first small.first (cc) in
-    let whole : plain_label l.name l.level l.date l.since l.volume l.first ≡ plain_label m.name m.level m.date m.since m.volume m.first = cc in
-    (whole, begun.1)
+    let whole : plain_label l.name l.level l.date l.since l.volume l.first ≡ plain_label m.name m.level m.date m.since m.volume m.first =
+    grind (arith, value_of, few, small, begun.0) in (whole, begun.1)
 
 pub one_record : (l m : PlainLabel) → IsLabel l → IsLabel m → label_record l ≡ label_record m → l ≡ m
 one_record l m its others is =
     (one_text l m (replicate (1024 - length (lines_of l)) 0) (replicate (1024 - length (lines_of m)) 0) its others is).0
 
--- a label fills its record, whatever the device
+-- a label has at most 356 bytes of text, and fills its record
 pub length_record : (l : PlainLabel) → IsLabel l → length (label_record l) ≡ 1024
 length_record l its =
-    let volume = its.volume.1 in
-    let first = its.first in
-    let run : IsRun (plain_run (97 ∷ []) l.name l.level l.date l.since 1 0) = record {
-      device = ((omega arith, omega arith), ((λ is. omega (arith, is)), tt));
-      name = its.name;
-      level = its.level;
-      date = its.date;
-      since = its.since;
-      block_bytes = (omega arith, omega arith);
-      blocks = omega arith;
-    } in
-    length_label (plain_run (97 ∷ []) l.name l.level l.date l.since 1 0) l.volume l.first run (omega (arith, volume)) (omega (arith, first))
+    let name = its.name in
+    let fits : length (lines_of l) ≤ 356 = simp length-append (omega (arith, line_number_is_short, its.level, its.date, its.since, its.volume, its.first)) in
+    omega (arith, fits, length-append (lines_of l) (replicate (1024 - length (lines_of l)) 0), length-replicate {A = ℕ} (1024 - length (lines_of l)) 0)
 
 -- a record of another length is none
 pub other_length : (bytes : List ℕ) → (length bytes ≡ 1024 → ⊥) → (l : PlainLabel) → IsLabel l → bytes ≢ label_record l
@@ -118,10 +97,8 @@ pub other_rest : (bytes rest : List ℕ) (m : PlainLabel) → IsLabel m → byte
 other_rest bytes rest m lawful is differs l its there =
     let count = 1024 - length (lines_of l) in
     let same = (one_text m l rest (replicate count 0) lawful its (sym is ∙ there)).1 in
-    differs (same ∙ ap (λ n. replicate n 0) (sym (ap length same ∙ length-replicate count 0)))
+    differs (grind (arith, same, length-replicate {A = ℕ} count 0))
 
 -- with zeros up to its end it is the label
 pub whole_record : (bytes rest : List ℕ) (m : PlainLabel) → length bytes ≡ 1024 → bytes ≡ lines_of m ++ rest → rest ≡ replicate (length rest) 0 → bytes ≡ label_record m
-whole_record bytes rest m long is zeros =
-    let count : length rest ≡ 1024 - length (lines_of m) = omega (arith, ap length is, length-append (lines_of m) rest, long) in
-    is ∙ ap (λ r. lines_of m ++ r) (zeros ∙ ap (λ n. replicate n 0) count)
+whole_record bytes rest m long is zeros = grind (arith, length-append (lines_of m) rest)

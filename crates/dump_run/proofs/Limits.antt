@@ -1,13 +1,9 @@
 -- The limits of a run and of its id, as their fields need them.
-use Rattle.std.proofs.Common.{◌<◌, ◌≤◌, ◌^◌, length, arith}
+use Rattle.dump_run.proofs.Words.{◌<◌, ◌≤◌, ◌^◌, length, arith, PlainRun, IsRun}
 use Rattle.dump_run.specs.DumpId.{IsDumpId, plain_id}
-use Rattle.dump_run.proofs.Words.{PlainRun, IsRun}
 
 pub number_of_run : (r : PlainRun) → IsRun r → (length r.device ≤ 255) × (r.blocks < 2 ^ 32)
-number_of_run r is =
-    let device = is.device.0.1 in
-    let blocks = is.blocks in
-    (device, omega arith)
+number_of_run r is = (is.device.0.1, omega (arith, is.blocks))
 
 -- the id of a run is within its limits
 pub id_of_run : (r : PlainRun) → IsRun r → IsDumpId (plain_id r.name r.level r.date r.since)

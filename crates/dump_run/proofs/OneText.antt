@@ -1,79 +1,61 @@
 -- A text of a run and of counts is that of no other, and each of its lines has its shape.
-use Rattle.std.proofs.Common.{true, ◌≡◌, ℕ, ◌<◌, ◌≤◌, ◌^◌, List, [], ◌∷◌, ◌++◌, length, map, codes, decimal, All, refl, sym, ap, subst, ◌∙◌, append_assoc, length-append, arith}
-use Rattle.dump_run.proofs.Words.{decimal_injective, append-nil, All-head, All-tail, RECORD_LIMIT, PlainRun, IsRun, plain_run, Kind, head, joined, run_lines, count_line, count_text, checkpoint_lines, checkpoint_text}
-use Rattle.dump_run.proofs.Words.{AreNumbers, IsNumberLine, IsLineOf, AreLinesOf, kind_after, HasBadLine, Title, Device, Name, Level, Date, Since, Block, Blocks, Counted, NoFeed, VolumeCount}
-use Rattle.dump_run.proofs.FieldCut.{one_cut, same_rest, device_lacks, name_lacks, lacks_decimal, lacks_append, count_lacks, is_clean, word_lacks, number_lacks}
+use Rattle.dump_run.proofs.Words.{true, ◌≡◌, ℕ, ◌<◌, ◌≤◌, ◌^◌, List, [], ◌∷◌, ◌++◌, length, map, codes, decimal, All, refl, sym, ap, subst, ◌∙◌, append_assoc, length-append, arith, append-nil, All-head, All-tail, RECORD_LIMIT, PlainRun, IsRun, plain_run, Kind, head, joined, run_lines, count_line}
+use Rattle.dump_run.proofs.Words.{count_text, checkpoint_lines, checkpoint_text, AreNumbers, IsNumberLine, IsLineOf, AreLinesOf, kind_after, HasBadLine, Title, Device, Name, Level, Date, Since, Block, Blocks, Counted, NoFeed, VolumeCount}
+use Rattle.dump_run.proofs.FieldCut.{value_of, one_cut, same_rest, device_lacks, name_lacks, lacks_decimal, lacks_append, count_lacks, is_clean, word_lacks, number_lacks}
 
 -- no line feed is in a line
 number_line_lacks : (word line : List ℕ) (least most : ℕ) → is_clean word ≡ true → most < 2 ^ 64 → IsNumberLine word least most line → NoFeed line
-number_line_lacks word line least most clean limit (n, within, is) =
-    let last = within.1 in
-    subst NoFeed (sym is) (number_lacks word n clean (omega (arith, last, limit)))
+number_line_lacks word line least most clean limit (n, within, is) = rw is (number_lacks word n clean (omega (arith, within.1, limit)))
 
 line_lacks : (kind : Kind) (line : List ℕ) → IsLineOf kind line → NoFeed line
-line_lacks Title line is = subst NoFeed (sym is) (word_lacks (codes "rdump 1") refl)
-line_lacks Device line (device, its, is) = subst NoFeed (sym is) (lacks_append 10 (codes "device ") device (word_lacks (codes "device ") refl) (device_lacks device its))
-line_lacks Name line (name, its, is) = subst NoFeed (sym is) (lacks_append 10 (codes "fs ") name (word_lacks (codes "fs ") refl) (name_lacks name its))
+line_lacks Title line is = rw is (word_lacks (codes "rdump 1") refl)
+line_lacks Device line (device, its, is) = rw is (lacks_append 10 (codes "device ") device (word_lacks (codes "device ") refl) (device_lacks device its))
+line_lacks Name line (name, its, is) = rw is (lacks_append 10 (codes "fs ") name (word_lacks (codes "fs ") refl) (name_lacks name its))
 line_lacks Level line its = number_line_lacks (codes "level ") line 0 9 refl (omega arith) its
 line_lacks Date line its = number_line_lacks (codes "date ") line 0 253402300799 refl (omega arith) its
 line_lacks Since line its = number_line_lacks (codes "since ") line 0 253402300799 refl (omega arith) its
 line_lacks Block line its = number_line_lacks (codes "block ") line 1 RECORD_LIMIT refl (omega arith) its
 line_lacks Blocks line its = number_line_lacks (codes "blocks ") line 0 2147483647 refl (omega arith) its
-line_lacks Counted line (c, few, is) = subst NoFeed (sym is) (lacks_append 10 (codes "counted ") (count_text c) (word_lacks (codes "counted ") refl) (count_lacks c few))
+line_lacks Counted line (c, few, is) = rw is (lacks_append 10 (codes "counted ") (count_text c) (word_lacks (codes "counted ") refl) (count_lacks c few))
 
 -- lines that begin the same bytes are the same
-one_more : (l b : List ℕ) (ls bs : List (List ℕ)) (rest : List ℕ) → NoFeed l → NoFeed b → joined (l ∷ ls) ≡ joined (b ∷ bs) ++ rest
-    → (l ≡ b) × (joined ls ≡ joined bs ++ rest)
-one_more l b ls bs rest clean_l clean_b is =
-    one_cut 10 l b (joined ls) (joined bs ++ rest) clean_l clean_b
-    (sym (append_assoc l (10 ∷ []) (joined ls)) ∙ is ∙ append_assoc (b ++ 10 ∷ []) (joined bs) rest ∙ append_assoc b (10 ∷ []) (joined bs ++ rest))
-
 begun : (kinds : List Kind) (before lines : List (List ℕ)) (rest : List ℕ) → AreLinesOf kinds before → AreLinesOf kinds lines
     → joined lines ≡ joined before ++ rest → (more : List (List ℕ)) × (lines ≡ before ++ more) × (rest ≡ joined more)
 begun kinds [] lines rest good its is = (lines, refl, sym is)
-begun kinds (b ∷ bs) [] rest good its is =
-    absurd (omega (arith, ap length is, length-append (joined (b ∷ bs)) rest, length-append (b ++ 10 ∷ []) (joined bs), length-append b (10 ∷ [])))
+begun kinds (b ∷ bs) [] rest good its is = absurd (omega (arith, simp length-append at (ap length is)))
 begun [] (b ∷ bs) (l ∷ ls) rest good its is =
-    let one = one_more l b ls bs rest (line_lacks Counted l its.0) (line_lacks Counted b good.0) is in
+    let one = one_cut 10 l b (joined ls) (joined bs ++ rest) (line_lacks Counted l its.0) (line_lacks Counted b good.0) (simp append_assoc at is) in
     let others = begun [] bs ls rest good.1 its.1 one.1 in
-    (others.0, ap (λ x. x ∷ ls) one.0 ∙ ap (λ xs. b ∷ xs) others.1, others.2)
+    (others.0, cc, others.2)
 begun (k ∷ ks) (b ∷ bs) (l ∷ ls) rest good its is =
-    let one = one_more l b ls bs rest (line_lacks k l its.0) (line_lacks k b good.0) is in
+    let one = one_cut 10 l b (joined ls) (joined bs ++ rest) (line_lacks k l its.0) (line_lacks k b good.0) (simp append_assoc at is) in
     let others = begun ks bs ls rest good.1 its.1 one.1 in
-    (others.0, ap (λ x. x ∷ ls) one.0 ∙ ap (λ xs. b ∷ xs) others.1, others.2)
+    (others.0, cc, others.2)
 
 pub counts_good : (counts : List VolumeCount) → All AreNumbers counts → AreLinesOf [] (map count_line counts)
 counts_good [] few = tt
 counts_good (c ∷ cs) few = ((c, All-head AreNumbers c cs few, refl), counts_good cs (All-tail AreNumbers c cs few))
 
 pub all_good : (r : PlainRun) (counts : List VolumeCount) → IsRun r → All AreNumbers counts → AreLinesOf head (checkpoint_lines r counts)
-all_good r counts run few =
-    let level : IsLineOf Level (codes "level " ++ decimal r.level) = (r.level, (omega arith, run.level), refl) in
-    let date : IsLineOf Date (codes "date " ++ decimal r.date) = (r.date, (omega arith, run.date), refl) in
-    let since : IsLineOf Since (codes "since " ++ decimal r.since) = (r.since, (omega arith, run.since), refl) in
-    let block : IsLineOf Block (codes "block " ++ decimal r.block_bytes) = (r.block_bytes, run.block_bytes, refl) in
-    let blocks : IsLineOf Blocks (codes "blocks " ++ decimal r.blocks) = (r.blocks, (omega arith, run.blocks), refl) in
-    (refl, ((r.device, run.device, refl), ((r.name, run.name, refl), (level, (date, (since, (block, (blocks, counts_good counts few))))))))
+all_good r counts run few = grind (arith, run, counts_good counts few)
 
 -- the kind of the line that follows
 next_kind : (kinds : List Kind) (before : List (List ℕ)) (line : List ℕ) (more : List (List ℕ)) → AreLinesOf kinds (before ++ line ∷ more) → IsLineOf (kind_after kinds before) line
-next_kind [] [] line more good = good.0
+next_kind kinds [] line more good = grind (arith, good)
 next_kind [] (b ∷ bs) line more good = next_kind [] bs line more good.1
-next_kind (k ∷ ks) [] line more good = good.0
 next_kind (k ∷ ks) (b ∷ bs) line more good = next_kind ks bs line more good.1
 
 -- all lines of the head were read
 pub past_head : (kinds : List Kind) (lines : List (List ℕ)) → length kinds ≤ length lines → kind_after kinds lines ≡ Counted
 past_head [] lines long = refl
-past_head (k ∷ ks) [] long = absurd (omega (arith, long))
+past_head (k ∷ ks) [] long = absurd (omega arith)
 past_head (k ∷ ks) (l ∷ ls) long = past_head ks ls (omega (arith, long))
 
 no_more : (r : PlainRun) (counts : List VolumeCount) (n : ℕ) (more : List (List ℕ)) → IsRun r → All AreNumbers counts → (bad : HasBadLine (checkpoint_text r counts) n)
     → checkpoint_lines r counts ≡ bad.before ++ more → bad.rest ≡ joined more → ⊥
 no_more r counts n [] run few bad lines rest =
     let all : checkpoint_lines r counts ≡ bad.before = lines ∙ append-nil bad.before in
-    let long : 8 ≤ length bad.before = omega (arith, ap length all, length-append (run_lines r) (map count_line counts)) in
-    bad.bad.1 (past_head head bad.before long) rest
+    bad.bad.1 (past_head head bad.before (omega (arith, ap length all, length-append (run_lines r) (map count_line counts)))) rest
 no_more r counts n (l ∷ ls) run few bad lines rest =
     bad.bad.0 l (joined ls) (next_kind head bad.before l ls (subst (AreLinesOf head) lines (all_good r counts run few))) (rest ∙ append_assoc l (10 ∷ []) (joined ls))
 
@@ -85,7 +67,7 @@ no_bad_line r counts n run few bad =
 -- the same text has the same lines
 no_lines : (lines : List (List ℕ)) → [] ≡ joined lines → lines ≡ []
 no_lines [] is = refl
-no_lines (l ∷ ls) is = absurd (omega (arith, ap length is, length-append (l ++ 10 ∷ []) (joined ls), length-append l (10 ∷ [])))
+no_lines (l ∷ ls) is = absurd (omega (arith, simp length-append at (ap length is)))
 
 same_lines : (r s : PlainRun) (counts others : List VolumeCount) → IsRun r → IsRun s → All AreNumbers counts → All AreNumbers others
     → checkpoint_text r counts ≡ checkpoint_text s others → checkpoint_lines r counts ≡ checkpoint_lines s others
@@ -104,29 +86,19 @@ one_count c d few small is =
     (lacks_decimal 32 c.volume (omega arith) (omega (arith, few.volume))) (lacks_decimal 32 d.volume (omega arith) (omega (arith, small.volume))) text in
     let b = one_cut 32 (decimal c.first) (decimal d.first) (decimal c.count) (decimal d.count)
     (lacks_decimal 32 c.first (omega arith) (omega (arith, few.first))) (lacks_decimal 32 d.first (omega arith) (omega (arith, small.first))) a.1 in
-    let volume : c.volume ≡ d.volume = decimal_injective c.volume d.volume (omega (arith, few.volume)) (omega (arith, small.volume)) a.0 in
-    let first : c.first ≡ d.first = decimal_injective c.first d.first (omega (arith, few.first)) (omega (arith, small.first)) b.0 in
-    let count : c.count ≡ d.count = decimal_injective c.count d.count (omega (arith, few.count)) (omega (arith, small.count)) b.1 in
-    let whole : volume_count c.volume c.first c.count ≡ volume_count d.volume d.first d.count = cc in
-    whole
+    let whole : volume_count c.volume c.first c.count ≡ volume_count d.volume d.first d.count = grind (arith, value_of, few, small, a.0, b.0, b.1) in whole
 
 all_counts : (counts others : List VolumeCount) → All AreNumbers counts → All AreNumbers others → map count_line counts ≡ map count_line others → counts ≡ others
 all_counts [] [] few small is = refl
 all_counts [] (d ∷ ds) few small is = cc
 all_counts (c ∷ cs) [] few small is = cc
 all_counts (c ∷ cs) (d ∷ ds) few small is =
-    let first = one_count c d (All-head AreNumbers c cs few) (All-head AreNumbers d ds small) (cc) in
-    let others = all_counts cs ds (All-tail AreNumbers c cs few) (All-tail AreNumbers d ds small) (cc) in
-    cc
+    cc (one_count c d (All-head AreNumbers c cs few) (All-head AreNumbers d ds small) (cc), all_counts cs ds (All-tail AreNumbers c cs few) (All-tail AreNumbers d ds small) (cc))
 
 pub same_text : (r s : PlainRun) (counts others : List VolumeCount) → IsRun r → IsRun s → All AreNumbers counts → All AreNumbers others
     → checkpoint_text r counts ≡ checkpoint_text s others → (r ≡ s) × (counts ≡ others)
 same_text r s counts others run its few small is =
     let lines = same_lines r s counts others run its few small is in
-    let level : r.level ≡ s.level = decimal_injective r.level s.level (omega (arith, run.level)) (omega (arith, its.level)) (cc) in
-    let date : r.date ≡ s.date = decimal_injective r.date s.date (omega (arith, run.date)) (omega (arith, its.date)) (cc) in
-    let since : r.since ≡ s.since = decimal_injective r.since s.since (omega (arith, run.since)) (omega (arith, its.since)) (cc) in
-    let block : r.block_bytes ≡ s.block_bytes = decimal_injective r.block_bytes s.block_bytes (omega (arith, run.block_bytes.1)) (omega (arith, its.block_bytes.1)) (cc) in
-    let blocks : r.blocks ≡ s.blocks = decimal_injective r.blocks s.blocks (omega (arith, run.blocks)) (omega (arith, its.blocks)) (cc) in
-    let whole : plain_run r.device r.name r.level r.date r.since r.block_bytes r.blocks ≡ plain_run s.device s.name s.level s.date s.since s.block_bytes s.blocks = cc in
+    let whole : plain_run r.device r.name r.level r.date r.since r.block_bytes r.blocks ≡ plain_run s.device s.name s.level s.date s.since s.block_bytes s.blocks =
+    grind (arith, value_of, run, its, lines) in
     (whole, all_counts counts others few small (cc))

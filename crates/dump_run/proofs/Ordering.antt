@@ -1,77 +1,51 @@
 -- Counts that are in order, and the first that is not.
-use Rattle.std.proofs.Common.{◌≡◌, ◌⊎◌, inl, inr, ℕ, suc, ◌+◌, ◌<◌, ◌≤◌, List, [], ◌∷◌, ◌++◌, All, length, length-append, get_or, take, drop, map, Err, refl, sym, ◌∙◌, ap, subst, append_assoc, arith}
+use Rattle.dump_run.proofs.Words.{◌≡◌, ◌⊎◌, inl, inr, ℕ, suc, ◌+◌, ◌<◌, ◌≤◌, List, [], ◌∷◌, ◌++◌, All, length, length-append, get_or, take, drop, map, Err, refl, sym, ◌∙◌, ap, subst, append_assoc, arith, append-nil, get_or_default, length-map, length-take-le, map-append, take-append-drop}
+use Rattle.dump_run.proofs.Words.{flat_map-append, All-nil, All-cons, PlainRun, IsRun, AreNumbers, SpellsCheckpoint, HasLineOutOfOrder, HasResumeFault, head, joined, run_lines, count_line, checkpoint_lines, checkpoint_text, AreCounts, IsNext, AreOrdered, VolumeCount}
 use Rattle.std.proofs.Math.Seq.{take-suc, drop-cons}
-use Rattle.dump_run.proofs.Words.{append-nil, get_or_default, length-map, length-take-le, map-append, take-append-drop, take_all, flat_map-append, All-nil, All-cons, PlainRun, IsRun, AreNumbers, SpellsCheckpoint}
-use Rattle.dump_run.proofs.Words.{HasLineOutOfOrder, HasResumeFault, LacksLine, head, joined, run_lines, count_line, checkpoint_lines, checkpoint_text, AreCounts, IsNext, AreOrdered, VolumeCount}
 use Rattle.dump_run.specs.Counts.{IsCount, AreVolumes, checkpoint_after, checkpoint_of}
 use Rattle.dump_run.proofs.OneText.{all_good, past_head, same_text, no_bad_line}
 use Rattle.dump_run.specs.declared.fault.ResumeFault.{ResumeFault}
 use Rattle.dump_run.specs.declared.fault.ResumeFault.TheVariants.{BadLine, NotInOrder, OutOfMemory}
 
 -- numbers of volumes are within the limit, as each of them has a block, or is the only one
-first_numbers : (run : PlainRun) (volume first : ℕ) (c : VolumeCount) → volume ≤ first + 1 → run.blocks ≤ 2147483647 → c.volume ≡ volume → c.first ≡ first
-    → IsCount run first c.count → AreNumbers c
-first_numbers run volume first c at limit v f is =
-    record { volume = omega (arith, is.0, is.1); first = omega (arith, is.0); count = omega (arith, is.0) }
-
-next_at : (run : PlainRun) (volume first count : ℕ) (counts : List VolumeCount) → volume ≤ first + 1 → IsCount run first count
-    → (counts ≡ []) ⊎ (first + count < run.blocks) → (counts ≡ []) ⊎ (volume + 1 ≤ first + count + 1)
-next_at run volume first count counts at is (inl none) = inl none
-next_at run volume first count counts at (within, inl some) (inr more) = inr (omega (arith, at, some))
-next_at run volume first count counts at (within, inr none) (inr more) = inr (absurd (omega (arith, none, more)))
-
 numbers_from : (run : PlainRun) (volume first : ℕ) (counts : List VolumeCount) → run.blocks ≤ 2147483647 → (counts ≡ []) ⊎ (volume ≤ first + 1)
     → AreVolumes run volume first counts → All AreNumbers counts
 numbers_from run volume first [] limit at v = All-nil AreNumbers
-numbers_from run volume first (c ∷ counts) limit (inl none) v = absurd (omega (arith, ap length none))
-numbers_from run volume first (c ∷ counts) limit (inr at) v =
-    All-cons AreNumbers c counts (first_numbers run volume first c at limit v.0 v.1 v.2)
-    (numbers_from run (volume + 1) (first + c.count) counts limit (next_at run volume first c.count counts at v.2 v.3) v.4)
+numbers_from run volume first (c ∷ counts) limit at v =
+    let low : volume ≤ first + 1 = grind (arith, at) in
+    All-cons AreNumbers c counts (record { volume = omega (arith, v.0, v.2.0, v.2.1); first = omega (arith, v.1, v.2.0); count = omega (arith, v.2.0) })
+    (numbers_from run (volume + 1) (first + c.count) counts limit (grind (arith, low, v.2, v.3)) v.4)
 
 pub volumes_numbers : (run : PlainRun) (counts : List VolumeCount) → IsRun run → AreVolumes run 1 0 counts → All AreNumbers counts
 volumes_numbers run counts is v = numbers_from run 1 0 counts is.blocks (inr (omega arith)) v
 
-some_left : {A : Type 0} {n m : ℕ} → (A → ⊥) → A ⊎ (n < m) → n < m
-some_left none (inl a) = absurd (none a)
-some_left none (inr some) = some
-
--- what a count says that follows these
+-- the count `c` follows `counts`, whose checkpoint is `at`
 pub record Follows (run : PlainRun) (counts : List VolumeCount) (at : ℕ × ℕ) (c : VolumeCount) : Type 0 where
   pub volume : c.volume ≡ at.0
   pub first : c.first ≡ at.1
   pub count : IsCount run at.1 c.count
   pub left : (counts ≡ []) ⊎ (at.1 < run.blocks)
 
-blocks_left : (run : PlainRun) (volume first : ℕ) (counts : List VolumeCount) → (counts ≡ []) ⊎ (first < run.blocks)
-    → (checkpoint_after volume first counts).1 < run.blocks → first < run.blocks
-blocks_left run volume first [] other some = some
-blocks_left run volume first (d ∷ counts) other some = some_left (λ none. cc) other
-
 pub volumes_more : (run : PlainRun) (volume first : ℕ) (counts : List VolumeCount) (c : VolumeCount) → AreVolumes run volume first counts
     → Follows run counts (checkpoint_after volume first counts) c → AreVolumes run volume first (counts ++ c ∷ [])
 volumes_more run volume first [] c v f = (f.volume, f.first, f.count, inl refl, tt)
 volumes_more run volume first (d ∷ counts) c v f =
     let g = rw (v.0, v.1) at f in
-    let some = some_left (λ none. cc) g.left in (
+    let some : (checkpoint_after (volume + 1) (first + d.count) counts).1 < run.blocks = grind (arith, g.left) in (
       v.0,
       v.1,
       v.2,
-      inr (blocks_left run (volume + 1) (first + d.count) counts v.3 some),
+      inr (grind (arith, v.3, some)),
       volumes_more run (volume + 1) (first + d.count) counts c v.4 (record { volume = g.volume; first = g.first; count = g.count; left = inr some }),
     )
-
-left_there : (run : PlainRun) (volume first : ℕ) (counts : List VolumeCount) (c : VolumeCount) → first < run.blocks
-    → Follows run counts (checkpoint_after volume first counts) c → (checkpoint_after volume first counts).1 < run.blocks
-left_there run volume first [] c some f = some
-left_there run volume first (d ∷ counts) c some f = some_left (λ none. cc) f.left
 
 pub volumes_last : (run : PlainRun) (volume first : ℕ) (counts : List VolumeCount) (c : VolumeCount) → AreVolumes run volume first (counts ++ c ∷ [])
     → Follows run counts (checkpoint_after volume first counts) c
 volumes_last run volume first [] c v = record { volume = v.0; first = v.1; count = v.2; left = inl refl }
 volumes_last run volume first (d ∷ counts) c v =
     let f = volumes_last run (volume + 1) (first + d.count) counts c v.4 in
-    let some = some_left (λ none. omega (arith, ap length none, length-append counts (c ∷ []))) v.3 in
-    rw (v.0, v.1) (record { volume = f.volume; first = f.first; count = f.count; left = inr (left_there run (volume + 1) (first + d.count) counts c some f) })
+    let some : first + d.count < run.blocks = elim v.3 [ inl none ↦ absurd (omega (arith, ap length none, length-append counts (c ∷ []))) | inr some ↦ some ] in
+    rw (v.0, v.1) (record { volume = f.volume; first = f.first; count = f.count; left = inr (grind (arith, some, f.left)) })
 
 -- those that begin volumes in order are in order
 pub volumes_begun : (run : PlainRun) (volume first : ℕ) (counts more : List VolumeCount) → AreVolumes run volume first (counts ++ more) → AreVolumes run volume first counts
@@ -81,10 +55,10 @@ volumes_begun run volume first (c ∷ counts) more v =
   where
     begun_left : (cs : List VolumeCount) → (cs ++ more ≡ []) ⊎ (first + c.count < run.blocks) → (cs ≡ []) ⊎ (first + c.count < run.blocks)
     begun_left [] left = inl refl
-    begun_left (d ∷ ds) left = inr (some_left (λ none. cc) left)
+    begun_left (d ∷ ds) left = grind (arith, left)
 
 -- the checkpoint is after the last count
-checkpoint_behind : (volume first : ℕ) (rest : List VolumeCount) (c : VolumeCount) → checkpoint_after volume first (rest ++ c ∷ []) ≡ (c.volume + 1, c.first + c.count)
+pub checkpoint_behind : (volume first : ℕ) (rest : List VolumeCount) (c : VolumeCount) → checkpoint_after volume first (rest ++ c ∷ []) ≡ (c.volume + 1, c.first + c.count)
 checkpoint_behind volume first [] c = refl
 checkpoint_behind volume first (r ∷ rest) c = checkpoint_behind (r.volume + 1) (r.first + r.count) rest c
 
@@ -101,41 +75,26 @@ pub record IsUpTo (run : PlainRun) (counts : List VolumeCount) (at first : ℕ) 
   pub within : first ≤ run.blocks
 
 more_taken : (counts : List VolumeCount) (at : ℕ) (c : VolumeCount) → at < length counts → c ≡ get_or counts at c → take (at + 1) counts ≡ take at counts ++ c ∷ []
-more_taken counts at c there is =
-    let one : at + 1 ≡ suc at = omega arith in
-    ap (λ n. take n counts) one ∙ take-suc counts at c there ∙ ap (λ d. take at counts ++ d ∷ []) (sym is)
-
-none_taken : (run : PlainRun) (counts : List VolumeCount) (at first : ℕ) → (at + 1 ≡ 1) ⊎ (first < run.blocks) → (take at counts ≡ []) ⊎ (first < run.blocks)
-none_taken run counts at first (inl one) = let none : at ≡ 0 = omega (arith, one) in inl (ap (λ n. take n counts) none)
-none_taken run counts at first (inr some) = inr some
-
-taken_none : (run : PlainRun) (counts : List VolumeCount) (at first : ℕ) → at ≤ length counts → (take at counts ≡ []) ⊎ (first < run.blocks)
-    → (at + 1 ≡ 1) ⊎ (first < run.blocks)
-taken_none run counts at first there (inl none) = inl (omega (arith, ap length none, length-take-le at counts there))
-taken_none run counts at first there (inr some) = inr some
-
-follows_at : (run : PlainRun) (counts : List VolumeCount) (at first : ℕ) (c : VolumeCount) → IsNext run.blocks (at + 1) first c
-    → Follows run (take at counts) (at + 1, first) c
-follows_at run counts at first c n = record { volume = n.0; first = n.1; count = (n.2, n.3); left = none_taken run counts at first n.4 }
+more_taken counts at c there is = grind (arith, is, take-suc counts at c there)
 
 pub up_to_more : (run : PlainRun) (counts : List VolumeCount) (at first : ℕ) (c : VolumeCount) → at < length counts → c ≡ get_or counts at c
     → IsUpTo run counts at first → IsNext run.blocks (at + 1) first c → IsUpTo run counts (at + 1) (first + c.count)
 up_to_more run counts at first c there is up n =
     let more = more_taken counts at c there is in
-    let f : Follows run (take at counts) (checkpoint_of (take at counts)) c = subst (λ p. Follows run (take at counts) p c) (sym up.next) (follows_at run counts at first c n) in
+    let left : (take at counts ≡ []) ⊎ (first < run.blocks) = grind (arith, n.4) in
+    let f : Follows run (take at counts) (at + 1, first) c = record { volume = n.0; first = n.1; count = (n.2, n.3); left = left } in
     record {
-      volumes = subst (AreVolumes run 1 0) (sym more) (volumes_more run 1 0 (take at counts) c up.volumes f);
-      next = ap checkpoint_of more ∙ checkpoint_behind 1 0 (take at counts) c ∙ ap (λ v. (v + 1, c.first + c.count)) n.0 ∙ ap (λ g. (at + 1 + 1, g + c.count)) n.1;
+      volumes = rw more (volumes_more run 1 0 (take at counts) c up.volumes (rw up.next f));
+      next = ap checkpoint_of more ∙ checkpoint_behind 1 0 (take at counts) c ∙ grind (arith, n.0, n.1);
       within = n.2;
     }
 
 pub not_next : (run : PlainRun) (counts : List VolumeCount) (at first : ℕ) (c : VolumeCount) → at < length counts → c ≡ get_or counts at c
     → IsUpTo run counts at first → (IsNext run.blocks (at + 1) first c → ⊥) → AreVolumes run 1 0 (take (at + 1) counts) → ⊥
 not_next run counts at first c there is up other volumes =
-    let g = volumes_last run 1 0 (take at counts) c (subst (AreVolumes run 1 0) (more_taken counts at c there is) volumes) in
-    let f : Follows run (take at counts) (at + 1, first) c = subst (λ p. Follows run (take at counts) p c) up.next g in
-    let count = f.count in
-    other (f.volume, f.first, count.0, count.1, taken_none run counts at first (omega (arith, there)) f.left)
+    let f = rw up.next at (volumes_last run 1 0 (take at counts) c (rw (more_taken counts at c there is) at volumes)) in
+    let left : (at + 1 ≡ 1) ⊎ (first < run.blocks) = grind (arith, f.left, length-take-le at counts (omega (arith, there))) in
+    other (f.volume, f.first, f.count.0, f.count.1, left)
 
 -- a text whose lines have their shape, and which of its lines is at fault
 pub whole_text : (bytes rest : List ℕ) (run : PlainRun) (counts : List VolumeCount) → bytes ≡ joined (run_lines run) ++ rest → rest ≡ joined (map count_line counts)
@@ -153,7 +112,7 @@ refused_counts bytes rest run (BadLine n) limits is b =
       split = is ∙ ap (λ l. joined (run_lines run) ++ l) b.split ∙ sym (append_assoc (joined (run_lines run)) _ b.rest)
           ∙ ap (λ l. l ++ b.rest) (whole_text _ _ run b.counts refl refl);
       good = all_good run b.counts limits b.good;
-      bad = subst (λ k. LacksLine k b.rest) (sym (past_head head lines (omega (arith, many)))) b.bad;
+      bad = rw (past_head head lines (omega (arith, many))) b.bad;
       number = omega (arith, many, b.number);
     }
 refused_counts bytes rest run (NotInOrder n) limits is bad = absurd bad
@@ -162,11 +121,8 @@ refused_counts bytes rest run OutOfMemory limits is bad = tt
 pub out_of_order : (bytes : List ℕ) (run : PlainRun) (counts : List VolumeCount) (n : ℕ) → IsRun run → All AreNumbers counts → bytes ≡ checkpoint_text run counts
     → AreOrdered run counts n → n < length counts → HasLineOutOfOrder bytes (8 + n + 1)
 out_of_order bytes run counts n limits few is o there =
-    let none = zero_count in
-    let c = get_or counts n none in
-    let all : counts ≡ take n counts ++ c ∷ drop (suc n) counts = sym (take-append-drop n counts) ∙ ap (λ l. take n counts ++ l) (drop-cons counts n none there) in
-    let one : suc n ≡ n + 1 = omega arith in
-    let taken : take (n + 1) counts ≡ take n counts ++ c ∷ [] = ap (λ m. take m counts) (sym one) ∙ take-suc counts n none there in
+    let c = get_or counts n zero_count in
+    let all : counts ≡ take n counts ++ c ∷ drop (suc n) counts = sym (take-append-drop n counts) ∙ ap (λ l. take n counts ++ l) (drop-cons counts n zero_count there) in
     record {
       run = run;
       before = take n counts;
@@ -176,7 +132,7 @@ out_of_order bytes run counts n limits few is o there =
       numbers = subst (All AreNumbers) all few;
       spelled = is ∙ ap (checkpoint_text run) all;
       good = o.1;
-      bad = λ v. o.2 there (subst (AreVolumes run 1 0) (sym taken) v);
+      bad = λ v. o.2 there (rw (more_taken counts n c there (listed_there counts n there)) v);
       number = omega (arith, length-take-le n counts (omega (arith, there)));
     }
 
@@ -187,9 +143,6 @@ pub line_more : (old text now new line : List ℕ) (counts : List VolumeCount) (
 line_more old text now new line counts i c there is before more its =
     let taken = more_taken counts i c there is in
     simp (more, before, its, taken, map-append, flat_map-append, append-nil, append_assoc)
-
-pub all_in_order : (run : PlainRun) (counts : List VolumeCount) (n : ℕ) → AreOrdered run counts n → length counts ≤ n → AreVolumes run 1 0 counts
-all_in_order run counts n o many = subst (AreVolumes run 1 0) (take_all n counts many) o.1
 
 -- one text, one run and one list
 pub one_checkpoint : (bytes : List ℕ) (r s : PlainRun) (counts others : List VolumeCount) → SpellsCheckpoint bytes r counts → SpellsCheckpoint bytes s others
@@ -206,6 +159,6 @@ in_order_there r counts n bytes a b =
 pub one_fault : (bytes : List ℕ) (r : PlainRun) (counts : List VolumeCount) (fault : ResumeFault) → SpellsCheckpoint bytes r counts → HasResumeFault bytes fault
     → fault ≡ OutOfMemory
 one_fault bytes r counts (BadLine n) a bad =
-    absurd (no_bad_line r counts n a.limits (volumes_numbers r counts a.limits a.in_order) (subst (λ b. HasResumeFault b (BadLine n)) a.text bad))
+    absurd (no_bad_line r counts n a.limits (volumes_numbers r counts a.limits a.in_order) (rw a.text at bad))
 one_fault bytes r counts (NotInOrder n) a bad = absurd (in_order_there r counts n bytes a bad)
 one_fault bytes r counts OutOfMemory a bad = refl

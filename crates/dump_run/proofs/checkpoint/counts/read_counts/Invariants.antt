@@ -1,5 +1,4 @@
-use Rattle.std.proofs.Common.{◌≡◌, ◌++◌, length, map, All}
-use Rattle.dump_run.proofs.Words.{AreNumbers, count_line, joined}
+use Rattle.dump_run.proofs.Words.{◌≡◌, ◌++◌, length, map, All, AreNumbers, count_line, joined}
 use Rattle.dump_run.proofs.checkpoint.counts.read_counts.Given as goal
 
 abbrev pub invariant-loop-rest : goal.invariant-loop-rest

@@ -1,12 +1,9 @@
-use Rattle.std.proofs.Common.{subst, sym}
-use Rattle.dump_run.proofs.Words.{FindsText, IsName}
-use Rattle.dump_run.proofs.FieldCut.{no_kind, other_kind, name_lacks}
+use Rattle.dump_run.proofs.Words.{IsName}
+use Rattle.dump_run.proofs.FieldCut.{other_kind, name_lacks}
 use Rattle.dump_run.proofs.checkpoint.field.name_field.Goals as goal
 
 pub returns-in_err-name-clause-found : goal.returns-in_err-name-clause-found
-returns-in_err-name-clause-found c =
-    subst (FindsText c.args.word.now IsName c.args.bytes.now) (sym c.from_residual.ensures)
-    (no_kind IsName c.args.word.now c.args.bytes.now name_lacks c.in_err-name.ensures)
+returns-in_err-name-clause-found c = rw c.from_residual.ensures (λ text more its. c.in_err-name.ensures text more (name_lacks text its))
 
 pub returns-then-not-is_name-clause-found : goal.returns-then-not-is_name-clause-found
 returns-then-not-is_name-clause-found c =

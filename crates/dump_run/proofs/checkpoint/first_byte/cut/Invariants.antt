@@ -1,5 +1,4 @@
-use Rattle.std.proofs.Common.{ℕ, ◌<◌}
-use Rattle.dump_run.proofs.Words.{◌≢◌, get_or}
+use Rattle.dump_run.proofs.Words.{ℕ, ◌<◌, ◌≢◌, get_or}
 use Rattle.dump_run.proofs.checkpoint.first_byte.cut.Given as goal
 
 abbrev pub invariant-loop-at : goal.invariant-loop-at

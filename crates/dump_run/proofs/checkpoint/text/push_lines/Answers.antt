@@ -1,5 +1,4 @@
-use Rattle.std.proofs.Common.{get_or, ◌∙◌}
-use Rattle.dump_run.proofs.Words.{joined, run_lines}
+use Rattle.dump_run.proofs.Words.{get_or, ◌∙◌, joined, run_lines}
 use Rattle.dump_run.proofs.Ordering.{zero_count, listed_there, line_more}
 use Rattle.dump_run.proofs.checkpoint.text.push_lines.Goals as goal
 

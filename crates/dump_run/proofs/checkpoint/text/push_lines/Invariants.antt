@@ -1,5 +1,4 @@
-use Rattle.std.proofs.Common.{◌≡◌, ◌++◌, map, take}
-use Rattle.dump_run.proofs.Words.{count_line, joined, run_lines}
+use Rattle.dump_run.proofs.Words.{◌≡◌, ◌++◌, map, take, count_line, joined, run_lines}
 use Rattle.dump_run.proofs.checkpoint.text.push_lines.Given as goal
 
 -- the lines of the run and of the counts so far

@@ -1,5 +1,4 @@
-use Rattle.std.proofs.Common.{◌≡◌, ◌+◌, ◌-◌, length, ap, sym, ◌∙◌, arith}
-use Rattle.dump_run.proofs.Words.{length-take-le}
+use Rattle.dump_run.proofs.Words.{◌≡◌, ◌+◌, ◌-◌, length, ap, sym, ◌∙◌, arith, length-take-le}
 use Rattle.dump_run.proofs.LabelText.{zeros_behind}
 use Rattle.dump_run.proofs.lines.TextLines.push.Goals as goal
 

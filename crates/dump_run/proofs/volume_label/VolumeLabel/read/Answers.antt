@@ -1,5 +1,4 @@
-use Rattle.std.proofs.Common.{arith, length, ◌≡◌}
-use Rattle.dump_run.proofs.Words.{both_ways}
+use Rattle.dump_run.proofs.Words.{arith, length, ◌≡◌, both_ways}
 use Rattle.dump_run.proofs.LabelReading.{other_length, other_rest, whole_record}
 use Rattle.dump_run.proofs.volume_label.VolumeLabel.read.Goals as goal
 
