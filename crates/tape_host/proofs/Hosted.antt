@@ -1,75 +1,47 @@
 -- How a host's drives stay those of its sides.
-use Rattle.std.proofs.Common.{◌≡◌, ◌⊎◌, ℕ, zero, suc, ◌+◌, ◌<◌, ◌≤◌, true, List, [], ◌∷◌, ◌++◌, length, map, replicate, slice_index, slice_index_or, option_map, Option, Some, None, refl, sym, ap, subst, ◌∙◌, inl, inr, arith}
+use Rattle.std.proofs.Common.{◌<◌, ◌≡◌, ℕ, ◌+◌, true, List, [], ◌∷◌, ◌++◌, length, map, replicate, option_map, Option, Some, None, sym, ap, subst}
+use Rattle.std.proofs.Common.{◌∙◌, arith, refl, Bool}
 use Rattle.rmt_wire.specs.RequestReader.{dropped_line}
-use Rattle.tape_host.proofs.Names.{eqb-true, eq-eqb, false_from_ne_true, length-replicate, get_or-replicate, length-append, map-append, nil_from_length}
-use Rattle.tape_host.proofs.Names.{same_Some, common_steps, RequestHeld, held, UnreadAt, Unread, TroubledTape, View, latched_at, newcomer, HoldsJust, Holders}
-use Rattle.tape_host.proofs.Names.{holders, IsSeatOf, IsHeldBy, library_of, IsLibrary, troubled_in, StacksCanFail, Access, Opened, Idle, state, drive_of, IsAt}
-use Rattle.tape_host.proofs.Names.{in_memory, session_seen, session_with, drive_in, server, side, RealServerConnection, Next, Nothing, Seat, Whole, side_at}
-use Rattle.tape_host.proofs.Names.{drive_open_by, IsHeldOnce, joined, AreAllInSlots, IsOnlineAt, MemoryDrives, MemorySessionState, seen_side, server_of}
-use Rattle.tape_host.proofs.Names.{is_nothing, IsMade, IsUntroubled, IsLive, IsIdleSession, IsHosting}
-use Rattle.tape_host.proofs.Lying.{lie_first, none_away}
-use Rattle.tape_host.proofs.Sides.{side_within, side_map, at_more}
-use Rattle.tape_host.proofs.Tidied.{joined_tidy, none_online}
-
--- without connections no side is live
-none_live : {S : Type 0} (k : ℕ) (s : S) → side_at [] k ≡ Some s → ⊥
-none_live zero s e = absurd cc
-none_live (suc i) s e = absurd cc
-
-pub none_unless : (n : ℕ) → (0 < n → ⊥) → n ≡ 0
-none_unless zero h = refl
-none_unless (suc n) h = absurd (h (omega arith))
+use Rattle.tape_host.proofs.Names.{length-replicate, get_or-replicate, length-append, map-append, nil_from_length, common_steps, RequestHeld, held}
+use Rattle.tape_host.proofs.Names.{UnreadAt, Unread, TroubledTape, View, latched_at, newcomer, HoldsJust, holders, IsSeatOf, IsHeldBy, library_of}
+use Rattle.tape_host.proofs.Names.{IsLibrary, StacksCanFail, Opened, drive_of, in_memory, session_seen, drive_in, side, RealServerConnection, Next}
+use Rattle.tape_host.proofs.Names.{Nothing, Seat, Whole, side_at, drive_open_by, IsHeldOnce, joined, AreAllInSlots, IsOnlineAt, MemoryDrives}
+use Rattle.tape_host.proofs.Names.{MemorySessionState, seen_side, server_of, is_nothing, IsMade, IsLive, IsHosting, IsNextWaiting, hosted}
+use Rattle.tape_host.proofs.Names.{with_side_at, TakesIn, IsPiecePushed}
+use Rattle.std.proofs.lemmas.Bool.Decides.{nat_tests}
+use Rattle.rmt_server.specs.Laws.{StaysAtWithMoreSeats}
+use Rattle.tape_host.proofs.Lying.{lie_first}
+use Rattle.tape_host.proofs.Sides.{side_within, side_map, more_there, at_push, length_with, map_with, side_replaced, still_there}
+use Rattle.tape_host.proofs.Tidied.{joined_tidy, none_online, side_tidy}
 
 -- drives that no seat holds, and no connection
 pub first_hosting : (drives : MemoryDrives) (n : ℕ) → drives.holds ≡ holders (replicate n 0) 0 → length drives.stacks.library.drives ≡ n
-    → IsLibrary drives.stacks (library_of drives.stacks) → (StacksCanFail drives.stacks → ⊥) → AreAllInSlots (library_of drives.stacks) → IsHosting drives [] Nothing
+    → IsLibrary drives.stacks (library_of drives.stacks) → (StacksCanFail drives.stacks → ⊥) → AreAllInSlots (library_of drives.stacks)
+    → IsHosting drives [] Nothing
 first_hosting drives n e all told quiet rested =
-    let numbers : drives.holds.numbers ≡ replicate n 0 = ap (λ h. h.numbers) e in
-    let same : length drives.holds.numbers ≡ n = ap length numbers ∙ length-replicate n 0 in
-    record {
-      live = λ k s x. absurd (none_live k s x);
-      held = λ d m h x. (
-          let zeros : slice_index drives.holds.numbers d ≡ 0 = ap (λ l. slice_index l d) numbers ∙ get_or-replicate n d 0 0 (omega (arith, h.0, same)) in
-          absurd (omega (arith, zeros, h.1, x)));
-      waiting = ap (λ h. h.last) e;
-      told = told;
-      paired = same ∙ sym all;
-      quiet = false_from_ne_true drives.stacks.trouble (λ t. quiet (inl t));
-      lying = none_unless (troubled_in drives.stacks.library) (λ x. quiet (inr x));
-      tidy = lie_first (library_of drives.stacks) (IsOnlineAt []) rested;
-    }
-
-seen_with : (drive : ℕ) (access : Access) (reel : Option TroubledTape) → drive_in (session_with drive access reel) ≡ Some drive
-seen_with drive access None = refl
-seen_with drive access (Some reel) = refl
+    let tidy = lie_first (library_of drives.stacks) (IsOnlineAt []) rested in
+    grind (arith, common_steps, tidy, length-replicate {A = ℕ} n 0, get_or-replicate {A = ℕ} n)
 
 -- the drive that a session is seen to have open
 seen_drive : (opened : Option (Opened TroubledTape)) → drive_in (session_seen opened) ≡ drive_of opened
-seen_drive None = refl
-seen_drive (Some device) = seen_with device.drive device.access device.reel
+seen_drive opened = grind arith
 
 module _ {drives : MemoryDrives} {sides : List (Option RealServerConnection)} {next : Next} (h : IsHosting drives sides next) where
   -- the holder of a drive is the number of the side that has it open
   pub holds_open : (d k : ℕ) (s : RealServerConnection) → IsLive drives k s → IsHeldBy drives.holds d k → drive_of s.session.opened ≡ Some d
-  holds_open d k s live (l, e) = (live.at.held d).0 (live.at.own.agrees d l ∙ eq-eqb (slice_index drives.holds.numbers d) s.session.seat.number (e ∙ sym live.number))
+  holds_open d k s live held = grind (arith, nat_tests, live.at.held d, live.at.own.agrees d)
 
   open_holds : (d k : ℕ) (s : RealServerConnection) → IsLive drives k s → drive_of s.session.opened ≡ Some d → IsHeldBy drives.holds d k
-  open_holds d k s live o =
-      let l : d < length drives.holds.numbers = omega (arith, live.at.below d o, h.paired) in
-      (l, eqb-true (slice_index drives.holds.numbers d) s.session.seat.number (sym (live.at.own.agrees d l) ∙ (live.at.held d).1 o) ∙ live.number)
+  open_holds d k s live o = grind (arith, nat_tests, live.at.held d, live.at.own.agrees d, live.at.below d, h.paired)
 
-  open_back : (d k : ℕ) (side : Option RealServerConnection) → side_at sides k ≡ side → drive_open_by (option_map seen_side side) ≡ Some d → IsHeldBy drives.holds d k
-  open_back d k None e o = absurd cc
-  open_back d k (Some s) e o = open_holds d k s (h.live k s e) (sym (seen_drive s.session.opened) ∙ o)
+  open_back : (d k : ℕ) → drive_open_by (side_at (map (option_map seen_side) sides) k) ≡ Some d → IsHeldBy drives.holds d k
+  open_back d k o =
+      let holds = λ (s : RealServerConnection) (e : side_at sides k ≡ Some s). open_holds d k s (h.live k s e) in
+      grind (arith, side_map seen_side sides k, holds, seen_drive)
 
   -- one holder
   pub held_once : IsHeldOnce (server_of drives sides)
-  held_once d k x = (
-    λ holder. (
-        let found = h.held d k holder x in
-        ap drive_open_by (side_map seen_side sides k ∙ ap (option_map seen_side) found.1) ∙ seen_drive found.0.session.opened ∙ holds_open d k found.0 (h.live k found.0 found.1) holder),
-    λ o. open_back d k (side_at sides k) refl (ap drive_open_by (sym (side_map seen_side sides k)) ∙ o),
-  )
+  held_once d k x = grind (arith, side_map seen_side sides k, h.held d k, h.live k, holds_open d k, open_back d k, seen_drive)
 
   -- no reel is latched at a drive that has no holder
   pub unlatched : (d : ℕ) → IsHeldBy drives.holds d 0 → latched_at (library_of drives.stacks) d ≡ None
@@ -77,112 +49,42 @@ module _ {drives : MemoryDrives} {sides : List (Option RealServerConnection)} {n
       let nobody : IsOnlineAt (map (option_map seen_side) sides) d → ⊥ = none_online sides d (λ k s e o. (
       let held = open_holds d k s (h.live k s e) o in
       let within = side_within sides k s e in absurd (omega (arith, within.0, held.1, none.1)))) in
-      none_away (latched_at (library_of drives.stacks) d) (λ first. nobody (h.tidy.first d first))
-
--- what the law of more seats says
-abbrev pub KeepsSeats : Type 0
-KeepsSeats = (old : MemoryDrives) (session_state : MemorySessionState) (last : ℕ) → IsAt in_memory (state old session_state) → old.holds.last ≤ last
-    → IsAt in_memory (state (record old { holds = holders old.holds.numbers last }) session_state)
+      grind (arith, nobody, h.tidy.first d)
 
 pub nothing_is : (next : Next) → is_nothing next ≡ true → next ≡ Nothing
-nothing_is Nothing e = refl
-nothing_is (Seat seat) e = absurd cc
-nothing_is (Whole s) e = absurd cc
+nothing_is next e = grind arith
+
+seated_live : StaysAtWithMoreSeats in_memory → (drives : MemoryDrives) (k : ℕ) (s : RealServerConnection) → IsLive drives k s
+    → IsLive (record drives { holds = holders drives.holds.numbers (drives.holds.last + 1) }) k s
+seated_live more drives k s l = grind (arith, more drives s.session (drives.holds.last + 1))
 
 -- the next connection got a seat
-pub seated_hosting : KeepsSeats → (drives : MemoryDrives) (sides : List (Option RealServerConnection)) → IsHosting drives sides Nothing → (seat : View) (new : Holders)
-    → new ≡ holders drives.holds.numbers (drives.holds.last + 1) → seat ≡ newcomer (drives.holds.last + 1) → IsSeatOf new seat → HoldsJust seat None
-    → IsHosting (record { holds = new; stacks = drives.stacks }) sides (Seat seat)
-seated_hosting more drives sides h seat new e number own idle =
-    subst (λ n. IsSeatOf n seat → IsHosting (record { holds = n; stacks = drives.stacks }) sides (Seat seat)) (sym e) (λ mine. record {
-      live = λ k s x. (let l = h.live k s x in record {
-        at = more drives s.session (drives.holds.last + 1) l.at (omega arith);
-        number = l.number;
-        readable = l.readable;
-        untroubled = l.untroubled;
-      });
-      held = h.held;
-      waiting = (
-        ap (λ n. n + 1) h.waiting,
-        record {
-          at = record {
-            own = mine;
-            enough = omega (arith, h.paired);
-            held = idle;
-            below = λ d x. absurd cc;
-            latched = λ d x. absurd cc;
-          };
-          number = ap (λ (v : View). v.number) number ∙ ap (λ n. n + 1) h.waiting;
-          idle = refl;
-        },
-      );
-      told = h.told;
-      paired = h.paired;
-      quiet = h.quiet;
-      lying = h.lying;
-      tidy = h.tidy;
-    }) own
+pub seated_hosting : StaysAtWithMoreSeats in_memory → (drives after : MemoryDrives) (sides : List (Option RealServerConnection))
+    → IsHosting drives sides Nothing → (seat : View)
+    → after ≡ record drives { holds = holders drives.holds.numbers (drives.holds.last + 1) } → seat ≡ newcomer (drives.holds.last + 1)
+    → IsSeatOf after.holds seat → HoldsJust seat None → IsHosting after sides (Seat seat)
+seated_hosting more drives after sides h seat e number own idle =
+    let stays = λ (x : MemorySessionState). more drives x (drives.holds.last + 1) in
+    let waiting : IsNextWaiting after (length sides) (Seat seat) = grind (arith, h.waiting, h.paired) in
+    let live = λ (k : ℕ) (s : RealServerConnection) (x : side_at sides k ≡ Some s). seated_live more drives k s (h.live k s x) in
+    rw e (assumption (live, rw e at waiting))
 
 -- the next connection's side was made of its seat
-pub made_hosting : (drives : MemoryDrives) (sides : List (Option RealServerConnection)) (old next : Next) → IsHosting drives sides old → IsMade old next
+pub made_hosting : (drives : MemoryDrives) (sides : List (Option RealServerConnection)) (old next : Next) → IsHosting drives sides old
+    → IsMade old next
     → IsHosting drives sides next
-made_hosting drives sides Nothing next h m = subst (IsHosting drives sides) (sym m) h
-made_hosting drives sides (Seat seat) next h (inl e) = subst (IsHosting drives sides) (sym e) h
-made_hosting drives sides (Seat seat) next h (inr (s, e, fresh)) = subst (IsHosting drives sides) (sym e) record {
-  live = h.live;
-  held = h.held;
-  waiting = (h.waiting.0, subst (λ session_state. IsIdleSession drives (length sides + 1) session_state) (sym fresh.session) h.waiting.1, fresh.reader);
-  told = h.told;
-  paired = h.paired;
-  quiet = h.quiet;
-  lying = h.lying;
-  tidy = h.tidy;
-}
-made_hosting drives sides (Whole s) next h m = subst (IsHosting drives sides) (sym m) h
-
--- the sides are those before, and the one that was added
-at_push : {S : Type 0} (sides : List (Option S)) (s : S) (i : ℕ) (x : S) → slice_index_or (sides ++ Some s ∷ []) i None ≡ Some x
-    → (slice_index_or sides i None ≡ Some x) ⊎ ((i ≡ length sides) × (s ≡ x))
-at_push [] s zero x e = inr (refl, same_Some s x e)
-at_push [] s (suc i) x e = absurd cc
-at_push (y ∷ ys) s zero x e = inl e
-at_push (y ∷ ys) s (suc i) x e = elim (at_push ys s i x e) [
-  | inl before ↦ inl before
-  | inr last ↦ inr (ap suc last.0, last.1)
-]
+made_hosting drives sides old next h m = grind arith
 
 module _ {drives : MemoryDrives} {sides : List (Option RealServerConnection)} {s : RealServerConnection} (h : IsHosting drives sides (Whole s)) where
-  -- the side that was admitted is live
-  admitted : (k : ℕ) → k ≡ length sides + 1 → IsLive drives k s
-  admitted k e = record {
-    at = h.waiting.1.at;
-    number = h.waiting.1.number ∙ sym e;
-    readable = ([], h.waiting.2);
-    untroubled = subst IsUntroubled (sym h.waiting.1.idle) tt;
-  }
-
+  -- the side that was admitted is live, and so are the others
   joined_live : (k : ℕ) (x : RealServerConnection) → side_at (sides ++ Some s ∷ []) k ≡ Some x → IsLive drives k x
-  joined_live zero x e = absurd cc
-  joined_live (suc i) x e = elim (at_push sides s i x e) [
-    | inl before ↦ h.live (suc i) x before
-    | inr last ↦ subst (IsLive drives (suc i)) last.1 (admitted (suc i) (omega (arith, last.0)))
-  ]
-
-  still_live : (k : ℕ) (x : RealServerConnection) → side_at sides k ≡ Some x → side_at (sides ++ Some s ∷ []) k ≡ Some x
-  still_live zero x e = absurd cc
-  still_live (suc i) x e = at_more sides s i x e
+  joined_live k x e = grind (arith, at_push sides k s x e, h.live k x)
 
   pub joined_hosting : IsHosting drives (sides ++ Some s ∷ []) Nothing
-  joined_hosting = record {
-    live = joined_live;
-    held = λ d n holder x. (let found = h.held d n holder x in (found.0, still_live n found.0 found.1));
-    waiting = h.waiting.0 ∙ sym (length-append sides (Some s ∷ []));
-    told = h.told;
-    paired = h.paired;
-    quiet = h.quiet;
-    lying = h.lying;
-    tidy = joined_tidy sides s (library_of drives.stacks) h.tidy;
-  }
+  joined_hosting =
+      let held = λ (d n : ℕ) (holder : IsHeldBy drives.holds d n) (x : 0 < n). more_there sides n s (h.held d n holder x) in
+      let waiting : drives.holds.last ≡ length (sides ++ Some s ∷ []) = rw length-append h.waiting.0 in
+      assumption (joined_live, held, waiting, joined_tidy sides s (library_of drives.stacks) h.tidy)
 
 nothing_kept : (line : Option (ℕ × ℕ)) (r : RequestHeld) → UnreadAt line r [] → length r.kept ≡ 0
 nothing_kept None r (z, e) = ap length (sym e)
@@ -199,7 +101,33 @@ unread_nothing r u =
 -- it is seen as one connection more
 pub joined_server : (drives : MemoryDrives) (sides : List (Option RealServerConnection)) (s : RealServerConnection) → IsHosting drives sides (Whole s)
     → server_of drives (sides ++ Some s ∷ []) ≡ joined (server_of drives sides)
-joined_server drives sides s h =
-    let fresh : seen_side s ≡ side (held [] 0) Idle = ap (λ r. side r (session_seen s.session.opened)) (unread_nothing s.reader h.waiting.2) ∙ ap (λ o. side (held [] 0) (session_seen o)) h.waiting.1.idle in
-    ap (λ xs. server (library_of drives.stacks) drives.holds.numbers xs)
-    (map-append (option_map seen_side) sides (Some s ∷ []) ∙ ap (λ x. map (option_map seen_side) sides ++ Some x ∷ []) fresh)
+joined_server drives sides s h = grind (arith, map-append (option_map seen_side) sides (Some s ∷ []), unread_nothing s.reader, h.waiting)
+
+-- ---- a piece that one side takes in
+
+-- a side with another reader
+abbrev pub with_reader : RealServerConnection → RequestHeld → RealServerConnection
+with_reader s reader = record { reader = reader; session = s.session }
+
+module _ {drives : MemoryDrives} {sides : List (Option RealServerConnection)} {next : Next} (h : IsHosting drives sides next)
+    (k : ℕ) (s : RealServerConnection) (is : side_at sides k ≡ Some s) (reader : RequestHeld)
+    (readable : (bytes : List ℕ) × Unread reader bytes) where
+  pushed_live : (n : ℕ) (x : RealServerConnection) → side_at (with_side_at sides k (Some (with_reader s reader))) n ≡ Some x → IsLive drives n x
+  pushed_live n x e = grind (arith, side_replaced sides k n s (Some (with_reader s reader)) (Some x) is e, h.live n, h.live k s is)
+
+  pub pushed_hosting : IsHosting drives (with_side_at sides k (Some (with_reader s reader))) next
+  pushed_hosting =
+      let held = λ (d n : ℕ) (holder : IsHeldBy drives.holds d n) (x : 0 < n).
+      still_there sides k n s (with_reader s reader) is (h.held d n holder x) in
+      let waiting = rw (← length_with sides k (Some (with_reader s reader))) at h.waiting in
+      let tidy = side_tidy sides k s is (Some (with_reader s reader)) (library_of drives.stacks) (library_of drives.stacks) h.tidy (λ own. own) in
+      assumption (pushed_live, held, waiting, tidy)
+
+-- it is seen as a piece that was taken in
+pub pushed_seen : (drives : MemoryDrives) (sides : List (Option RealServerConnection)) (ready : Bool) (k : ℕ) (s : RealServerConnection)
+    (piece : List ℕ) (count : ℕ) (reader : RequestHeld) → side_at sides k ≡ Some s → TakesIn s.reader piece count reader
+    → IsPiecePushed (hosted (server_of drives sides) ready) k piece (side_at (map (option_map seen_side) sides) k) count
+    (hosted (server_of drives (with_side_at sides k (Some (with_reader s reader)))) ready)
+pushed_seen drives sides ready k s piece count reader is takes =
+    rw (side_map seen_side sides k, is)
+    (reader, takes, rw (map_with seen_side sides k (Some (with_reader s reader))) refl)

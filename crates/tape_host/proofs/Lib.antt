@@ -5,7 +5,6 @@ pub mod Lying
 pub mod Sides
 pub mod Tidied
 pub mod Hosted
-pub mod Pushed
 pub mod Restacked
 pub mod Turned
 mod Names

@@ -1,18 +1,14 @@
-use Rattle.std.proofs.Common.{option_map, sym, ap, ◌∙◌}
-use Rattle.tape_host.proofs.Names.{ServerConnection, Hosted, side_at, seen_side}
+use Rattle.std.proofs.Common.{arith, sym, ap, ◌∙◌}
+use Rattle.tape_host.proofs.Names.{seen_side, side_at}
 use Rattle.tape_host.proofs.Sides.{side_map}
 use Rattle.tape_host.proofs.host.Host.session.Goals as goal
 
 pub returns-clause-seen : goal.returns-clause-seen
 returns-clause-seen c =
-    let sides = c.self.inside.sides.items in
-    let k = c.args.connection in
-    let is = ap (λ xs. side_at xs k) (sym c.deref.ensures.value) ∙ sym c.in_ok-live.ensures in
-    ap (option_map (λ (s : ServerConnection). s.session)) (sym (side_map seen_side sides k ∙ ap (option_map seen_side) is))
-    ∙ ap (λ (v : Hosted). option_map (λ (s : ServerConnection). s.session) (side_at v.server.sides k)) c.self.view_is
+    let seen = side_map seen_side c.self.inside.sides.items c.args.connection in
+    grind (arith, seen, c.self.view_is, c.deref.ensures.value, c.in_ok-live.ensures)
 
 pub returns-clause-number : goal.returns-clause-number
 returns-clause-number c =
-    let k = c.args.connection in
-    let is = ap (λ xs. side_at xs k) (sym c.deref.ensures.value) ∙ sym c.in_ok-live.ensures in
-    (c.self.invariant.0.live k c.in_ok-live.live.now is).number
+    (c.self.invariant.0.live c.args.connection c.in_ok-live.live.now
+    (ap (λ xs. side_at xs c.args.connection) (sym c.deref.ensures.value) ∙ sym c.in_ok-live.ensures)).number
