@@ -1,5 +1,5 @@
 -- The calls of a sink without places, over a whole list of them that went on.
-use Rattle.std.proofs.Common.{◌≡◌, ℕ, Bool, true, false, List, [], ◌∷◌, ◌++◌, refl, sym, ap, subst, ◌∙◌}
+use Rattle.std.proofs.Common.{arith, ◌≡◌, ℕ, Bool, true, false, List, [], ◌∷◌, ◌++◌, refl, sym, ap, subst, ◌∙◌}
 use Rattle.tape.specs.Failures.{Steps}
 use Rattle.rdump_net.specs.Sink.{SinkCall, Takes}
 use Rattle.rdump_net.specs.Sink.SinkCall.{Label, Block, Mark, Complete}
@@ -19,33 +19,23 @@ after_one k u t calls begun made old is rest mid =
 first_label : {F : Type 0} (k : RestoredKind F) (s u t : FiledSink F) (bytes : List ℕ) (calls : List SinkCall) (begun : Bool)
     → IsClearedOnce k begun s.file u.file → u.begun ≡ true → Appends k u t calls
     → Steps k.holds s.file t.file (λ old new. new ≡ appended begun (Label bytes ∷ calls) old)
-first_label {F} k s u t bytes calls true same is rest =
-    λ old held. after_one k u t calls true old old is rest (old, subst (λ (f : F). k.holds f old) (sym same) held, refl)
+first_label k s u t bytes calls true same is rest = λ old held. after_one k u t calls true old old is rest (old, rw same held, refl)
 first_label k s u t bytes calls false cleared is rest = λ old held. after_one k u t calls true [] old is rest (cleared old held)
 
 -- a call that went on, and the calls after it
 go_appends : {F : Type 0} (k : RestoredKind F) (s u t : FiledSink F) (call : SinkCall) (calls : List SinkCall) → s.places ≡ false
     → FileStep k s u call true → Appends k u t calls → Appends k s t (call ∷ calls)
 go_appends k s u t (Label bytes) calls places step rest =
-    let at : LabelStep false k s u bytes true = subst (λ (p : Bool). LabelStep p k s u bytes true) places step in
-    first_label k s u t bytes calls s.begun at.0 (ap (λ v. v.begun) at.1) rest
+    let at = rw places at step in first_label k s u t bytes calls s.begun at.0 (ap (λ v. v.begun) at.1) rest
 go_appends k s u t (Block number bytes) calls places step rest =
-    let at : BlockStep false k s u number bytes true = subst (λ (p : Bool). BlockStep p k s u number bytes true) places step in
-    λ old held. after_one k u t calls true (old ++ bytes) old (ap (λ v. v.begun) at.1) rest (at.0 old held)
-go_appends {F} k s u t Mark calls places step rest = subst (λ (v : FiledSink F). Appends k v t calls) step rest
+    let at = rw places at step in λ old held. after_one k u t calls true (old ++ bytes) old (ap (λ v. v.begun) at.1) rest (at.0 old held)
+go_appends k s u t Mark calls places step rest = rw step at rest
 go_appends k s u t Complete calls places step rest =
     λ old held. after_one k u t calls s.begun old old (ap (λ v. v.begun) step.2) rest (step.0 old held)
 
 -- the sink stays one without places
 stays_so : {F : Type 0} (k : RestoredKind F) (s u : FiledSink F) (call : SinkCall) → s.places ≡ false → FileStep k s u call true → u.places ≡ false
-stays_so k s u (Label bytes) places step =
-    let at : LabelStep false k s u bytes true = subst (λ (p : Bool). LabelStep p k s u bytes true) places step in
-    ap (λ v. v.places) at.1 ∙ places
-stays_so k s u (Block number bytes) places step =
-    let at : BlockStep false k s u number bytes true = subst (λ (p : Bool). BlockStep p k s u number bytes true) places step in
-    ap (λ v. v.places) at.1 ∙ places
-stays_so k s u Mark places step = ap (λ v. v.places) step ∙ places
-stays_so k s u Complete places step = ap (λ v. v.places) step.2 ∙ places
+stays_so k s u call places step = grind arith
 
 -- all calls of a sink without places
 pub appends : {F : Type 0} (k : RestoredKind F) (s t : FiledSink F) (calls : List SinkCall) (whole : Bool) → s.places ≡ false → whole ≡ true

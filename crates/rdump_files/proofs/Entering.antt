@@ -1,5 +1,5 @@
 -- When a dump is entered in a dumpdates file.
-use Rattle.std.proofs.Common.{◌≡◌, ◌≢◌, ℕ, Bool, true, false, List, Option, None, Some, Result, refl, subst, inl, inr}
+use Rattle.std.proofs.Common.{arith, ◌≡◌, ◌≢◌, ℕ, Bool, true, false, List, Option, None, Some, Result, refl, subst, inl, inr}
 use Rattle.exit_status.specs.declared.status.ExitStatus.{ExitStatus}
 use Rattle.exit_status.specs.declared.status.ExitStatus.TheVariants.{Success, Abnormal}
 use Rattle.rmt_wire.specs.Counted.{Counting}
@@ -20,22 +20,15 @@ use Rattle.rdump_files.specs.declared.dump_update.DumpEnd.{DumpEnd}
 
 -- a dump that ended with success is finished
 finished_at : (whole : Bool) (at : Standing) (last : List ℕ) → IsLast whole at last Success → at.stage ≡ Finished
-finished_at true at last (inl h) = h.0
-finished_at true at last (inr h) = let bad = h.2 in cc
-finished_at false at last h = let bad : Success ≡ Abnormal = h in cc
+finished_at whole at last h = grind arith
 
 -- what a run that is finished is entered as
 entry_told : (stage : Stage) (run : PlainRun) (entry : Entry) → stage ≡ Finished → TellsEntry stage run (Some entry) → plain_entry entry ≡ dates_entry_of run
-entry_told stage run entry e t = let told : TellsEntry Finished run (Some entry) = subst (λ s. TellsEntry s run (Some entry)) e t in told
+entry_told stage run entry e t = grind arith
 
--- a client that tells an entry is finished
+-- a client that has an entry to give is finished
 some_finished : (stage : Stage) (run : PlainRun) (entry : Entry) → TellsEntry stage run (Some entry) → stage ≡ Finished
-some_finished Finished run entry t = refl
-some_finished Ready run entry t = cc
-some_finished (ToSend step) run entry t = cc
-some_finished (Waiting step) run entry t = cc
-some_finished Asking run entry t = cc
-some_finished Abandoned run entry t = cc
+some_finished stage run entry t = grind arith
 
 module _ {W F : Type 0} {contents : W → Option (List ℕ)} {k : WholeFileKind F} {first : List VolumeCount} {at : Standing}
     {out told : Counting W} where
@@ -59,7 +52,7 @@ module _ {W F : Type 0} {contents : W → Option (List ℕ)} {k : WholeFileKind 
         enters = λ _. (finished, entered.enters finished);
       }
 
--- a client that tells no entry is not finished
+-- a client that has no entry to give is not finished
 pub not_entered : {W F : Type 0} {contents : W → Option (List ℕ)} {k : WholeFileKind F} {at : Standing} {s : DumpSinks W F} {end : DumpEnd}
     → TellsEntry at.stage at.run None → IsUncaused end Abnormal → IsEntered contents k at s s end
 not_entered {at = at} t u = record {

@@ -72,9 +72,6 @@ at_its_place earlier later w old apart =
     let file = restored earlier old in
     rw restored_both (stay w later (patched file w.at w.bytes) (written w.at w.bytes file) apart)
 
-less_or_more : (i j : ℕ) → i ≢ j → (i + 1 ≤ j) ⊎ (j + 1 ≤ i)
-less_or_more i j other = grind arith
-
 -- a block ends where the next one of the same length begins, or before
 ends_before : (i j n : ℕ) → i + 1 ≤ j → i * n + n ≤ j * n
 ends_before i j n less =
@@ -86,7 +83,8 @@ ends_before i j n less =
 pub other_blocks : (i j : ℕ) (bytes others : List ℕ) → length others ≡ length bytes → i ≢ j
     → AreApart (record { at = i * length bytes; bytes = bytes }) (record { at = j * length others; bytes = others })
 other_blocks i j bytes others same other =
-    rw same (elim (less_or_more i j other) [
+    let less_or_more : (i + 1 ≤ j) ⊎ (j + 1 ≤ i) = grind arith in
+    rw same (elim less_or_more [
       | inl less ↦ inr (ends_before i j (length bytes) less)
       | inr more ↦ inl (ends_before j i (length bytes) more)
     ])

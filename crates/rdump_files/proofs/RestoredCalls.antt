@@ -1,125 +1,87 @@
 -- The calls of a sink with places, over a whole list of them.
-use Rattle.std.proofs.Common.{◌≡◌, ℕ, Bool, true, false, List, [], ◌∷◌, length, Option, Some, None, refl, sym, ap, subst, ◌∙◌}
+use Rattle.std.proofs.Common.{arith, ◌≡◌, ℕ, Bool, true, false, List, [], ◌∷◌, ◌++◌, Option, Some, None, refl, sym, ap, subst, ◌∙◌, length}
 use Rattle.dump_run.specs.Label.{PlainLabel}
 use Rattle.rdump_net.specs.Sink.{SinkCall, Takes}
 use Rattle.rdump_net.specs.Sink.SinkCall.{Label, Block, Mark, Complete}
 use Rattle.rdump_net.specs.Sink.Takes.{nothing, accepted, stopped}
 use Rattle.rdump_files.specs.RestoredFile.{RestoredKind}
 use Rattle.rdump_files.specs.FileSink.{FiledSink, FileStep, LabelStep, BlockStep, IsRefusedBlock, HasLength, dump_after, no_sizes, sizes_after}
-use Rattle.rdump_files.specs.Restored.{Placed, Writes, Restores, GoesOnAs, restored, placed, IsLeft, PutsBlocks, IsAt}
+use Rattle.rdump_files.specs.Restored.{Placed, Writes, Restores, GoesOnAs, restored, placed, PutsBlocks, IsAt, IsLeft}
 use Rattle.rdump_files.proofs.RestoredBytes.{at_its_place}
 use Rattle.rdump_files.specs.Restored.Writes.{nothing as no_write, label as write_label, block as write_block, mark as write_mark, complete as write_complete, stopped as write_stopped, stopped_block}
 use Rattle.rdump_files.specs.declared.sink_fault.SinkFault.{SinkFault}
 use Rattle.rdump_files.specs.declared.sink_fault.SinkFault.TheVariants.{Failed, OtherLength, NoLabel, OtherDump}
 
--- one call of a sink with places, whatever its answer
-step_goes_on : {F : Type 0} (k : RestoredKind F) (s t : FiledSink F) (call : SinkCall) (answer : Bool) → s.places ≡ true
-    → FileStep k s t call answer → GoesOnAs s t
-step_goes_on {F} k s t (Label bytes) true places step =
-    let at : LabelStep true k s t bytes true = subst (λ (p : Bool). LabelStep p k s t bytes true) places step in
-    subst (λ (v : FiledSink F). GoesOnAs s v) (sym at.2) (refl, (λ l is. ap (λ d. dump_after d at.0) is), (λ n is. is))
-step_goes_on {F} k s t (Label bytes) false places step =
-    let at : LabelStep true k s t bytes false = subst (λ (p : Bool). LabelStep p k s t bytes false) places step in
-    subst (λ (v : FiledSink F). GoesOnAs s v) (sym at.2) (refl, (λ l is. is), (λ n is. is))
-step_goes_on {F} k s t (Block number bytes) true places step =
-    let at : BlockStep true k s t number bytes true = subst (λ (p : Bool). BlockStep p k s t number bytes true) places step in
-    subst (λ (v : FiledSink F). GoesOnAs s v) (sym at.1)
-    (refl, (λ l is. is), (λ n is. let same : length bytes ≡ n = subst (λ (b : Option ℕ). HasLength b (length bytes)) is at.0.2 in ap Some same))
-step_goes_on {F} k s t (Block number bytes) false places step =
-    let at : BlockStep true k s t number bytes false = subst (λ (p : Bool). BlockStep p k s t number bytes false) places step in
-    subst (λ (v : FiledSink F). GoesOnAs s v) (sym at.2) (refl, (λ l is. is), (λ n is. is))
-step_goes_on {F} k s t Mark answer places step = subst (λ (v : FiledSink F). GoesOnAs s v) (sym step) (refl, (λ l is. is), (λ n is. is))
-step_goes_on {F} k s t Complete true places step =
-    subst (λ (v : FiledSink F). GoesOnAs s v) (sym step.2) (refl, (λ l is. is), (λ n is. is))
-step_goes_on {F} k s t Complete false places step =
-    subst (λ (v : FiledSink F). GoesOnAs s v) (sym step.3) (refl, (λ l is. is), (λ n is. is))
+module _ {F : Type 0} (k : RestoredKind F) where
+  -- one call of a sink with places, whatever its answer
+  step_goes_on : (s t : FiledSink F) (call : SinkCall) (answer : Bool) → s.places ≡ true → FileStep k s t call answer → GoesOnAs s t
+  step_goes_on s t call answer places step = grind arith
 
--- all calls of a sink with places
-pub goes_on_as : {F : Type 0} (k : RestoredKind F) (s t : FiledSink F) (calls : List SinkCall) (whole : Bool) → s.places ≡ true
-    → Takes (FileStep k) s t calls whole → GoesOnAs s t
-goes_on_as k s t calls whole places nothing = (refl, (λ l is. is), (λ n is. is))
-goes_on_as k s t calls whole places (accepted {t = u} {call = call} {calls = more} step rest) =
-    let one = step_goes_on k s u call true places step in
-    let two = goes_on_as k u t more whole (one.0 ∙ places) rest in
-    (two.0 ∙ one.0, (λ l is. two.1 l (one.1 l is)), (λ n is. two.2 n (one.2 n is)))
-goes_on_as k s t calls whole places (stopped {call = call} step) = step_goes_on k s t call false places step
+  -- all calls of a sink with places
+  pub goes_on_as : (s t : FiledSink F) (calls : List SinkCall) (whole : Bool) → s.places ≡ true → Takes (FileStep k) s t calls whole → GoesOnAs s t
+  goes_on_as s t calls whole places nothing = (refl, (λ l is. is), (λ n is. is))
+  goes_on_as s t calls whole places (accepted {t = u} {call = call} {calls = more} step rest) =
+      let one = step_goes_on s u call true places step in
+      let two = goes_on_as u t more whole (one.0 ∙ places) rest in
+      (two.0 ∙ one.0, (λ l is. two.1 l (one.1 l is)), (λ n is. two.2 n (one.2 n is)))
+  goes_on_as s t calls whole places (stopped {call = call} step) = step_goes_on s t call false places step
 
--- a call at which the sink stopped with its file unchanged
-unchanged : {F : Type 0} (k : RestoredKind F) (s t : FiledSink F) (call : SinkCall) → t.file ≡ s.file → Restores k s t (call ∷ []) false
-unchanged {F} k s t call same =
-    ([], None, write_stopped, (λ old held. (old, subst (λ (f : F). k.holds f old) (sym same) held, refl)))
+  -- a call at which the sink stopped with its file unchanged
+  unchanged : (s t : FiledSink F) (call : SinkCall) → t.file ≡ s.file → Restores k s t (call ∷ []) false
+  unchanged s t call same = ([], None, write_stopped, (λ old held. (old, rw same held, refl)))
 
--- a block at which the sink stopped
-refused_block : {F : Type 0} (k : RestoredKind F) (s t : FiledSink F) (number : ℕ) (bytes : List ℕ) (fault : SinkFault)
-    → IsRefusedBlock k s t number bytes fault → Restores k s t (Block number bytes ∷ []) false
-refused_block k s t number bytes NoLabel is = unchanged k s t (Block number bytes) is.1
-refused_block k s t number bytes (OtherLength n before) is = unchanged k s t (Block number bytes) is.3
-refused_block k s t number bytes (Failed e) is = (
-  [],
-  Some (placed is.0 number bytes),
-  subst (λ (f : Option ℕ). Writes s.dump f s.block (Block number bytes ∷ []) false [] (Some (placed is.0 number bytes))) (sym is.1) (stopped_block is.2),
-  is.3,
-)
-refused_block k s t number bytes (OtherDump l) is = absurd is
+  -- a block at which the sink stopped
+  refused_block : (s t : FiledSink F) (number : ℕ) (bytes : List ℕ) (fault : SinkFault) → IsRefusedBlock k s t number bytes fault → Restores k s t (Block number bytes ∷ []) false
+  refused_block s t number bytes NoLabel is = unchanged s t (Block number bytes) is.1
+  refused_block s t number bytes (OtherLength n before) is = unchanged s t (Block number bytes) is.3
+  refused_block s t number bytes (Failed e) is = ([], Some (placed is.0 number bytes), rw is.1 (stopped_block is.2), is.3)
+  refused_block s t number bytes (OtherDump l) is = absurd is
 
--- a call at which the sink stopped
-stop_restores : {F : Type 0} (k : RestoredKind F) (s t : FiledSink F) (call : SinkCall) → s.places ≡ true → FileStep k s t call false
-    → Restores k s t (call ∷ []) false
-stop_restores k s t (Label bytes) places step =
-    let at : LabelStep true k s t bytes false = subst (λ (p : Bool). LabelStep p k s t bytes false) places step in
-    unchanged k s t (Label bytes) (ap (λ v. v.file) at.2)
-stop_restores k s t (Block number bytes) places step =
-    let at : BlockStep true k s t number bytes false = subst (λ (p : Bool). BlockStep p k s t number bytes false) places step in
-    refused_block k s t number bytes at.0 at.1
-stop_restores k s t Mark places step = unchanged k s t Mark (ap (λ v. v.file) step)
-stop_restores k s t Complete places step = ([], None, write_stopped, step.2)
+  -- a call at which the sink stopped
+  stop_restores : (s t : FiledSink F) (call : SinkCall) → s.places ≡ true → FileStep k s t call false → Restores k s t (call ∷ []) false
+  stop_restores s t (Label bytes) places step = let at = rw places at step in unchanged s t (Label bytes) (ap (λ v. v.file) at.2)
+  stop_restores s t (Block number bytes) places step = let at = rw places at step in refused_block s t number bytes at.0 at.1
+  stop_restores s t Mark places step = unchanged s t Mark (ap (λ v. v.file) step)
+  stop_restores s t Complete places step = ([], None, write_stopped, step.2)
 
--- a call that was accepted, and the calls after it
-go_restores : {F : Type 0} (k : RestoredKind F) (s u t : FiledSink F) (call : SinkCall) (calls : List SinkCall) (whole : Bool)
-    → s.places ≡ true → FileStep k s u call true → Restores k u t calls whole → Restores k s t (call ∷ calls) whole
-go_restores {F} k s u t (Label bytes) calls whole places step rest =
-    let at : LabelStep true k s u bytes true = subst (λ (p : Bool). LabelStep p k s u bytes true) places step in
-    let from : Restores k (record s { begun = true; dump = dump_after s.dump at.0; first = Some at.0.first; sizes = no_sizes }) t calls whole
-    = subst (λ (v : FiledSink F). Restores k v t calls whole) at.2 rest in
-    (from.0, from.1, write_label at.1 from.2, from.3)
-go_restores {F} k s u t (Block number bytes) calls whole places step rest =
-    let at : BlockStep true k s u number bytes true = subst (λ (p : Bool). BlockStep p k s u number bytes true) places step in
-    let from : Restores k (record s { file = u.file; begun = true; block = Some (length bytes); sizes = sizes_after s.sizes (length bytes) }) t calls whole
-    = subst (λ (v : FiledSink F). Restores k v t calls whole) at.1 rest in
-    let first = at.0.0 in
-    let own : Writes s.dump (Some first) (Some (length bytes)) calls whole from.0 from.1
-    = subst (λ (f : Option ℕ). Writes s.dump f (Some (length bytes)) calls whole from.0 from.1) at.0.1 from.2 in (
-      placed first number bytes ∷ from.0,
-      from.1,
-      subst (λ (f : Option ℕ). Writes s.dump f s.block (Block number bytes ∷ calls) whole (placed first number bytes ∷ from.0) from.1)
-          (sym at.0.1) (write_block at.0.2 own),
-      (λ old held.
-          let put = at.0.3 old held in
-          let after = from.3 put.0 put.1 in
-          (after.0, after.1, subst (λ (m : List ℕ). IsLeft from.1 (restored from.0 m) after.0) put.2 after.2)),
-    )
-go_restores {F} k s u t Mark calls whole places step rest =
-    let from : Restores k s t calls whole = subst (λ (v : FiledSink F). Restores k v t calls whole) step rest in
-    (from.0, from.1, write_mark from.2, from.3)
-go_restores {F} k s u t Complete calls whole places step rest =
-    let from : Restores k (record s { file = u.file }) t calls whole = subst (λ (v : FiledSink F). Restores k v t calls whole) step.2 rest in (
-      from.0,
-      from.1,
-      write_complete from.2,
-      (λ old held.
-          let kept = step.0 old held in
-          let after = from.3 kept.0 kept.1 in
-          (after.0, after.1, subst (λ (m : List ℕ). IsLeft from.1 (restored from.0 m) after.0) kept.2 after.2)),
-    )
+  -- a call that was accepted, and the calls after it
+  go_restores : (s u t : FiledSink F) (call : SinkCall) (calls : List SinkCall) (whole : Bool) → s.places ≡ true → FileStep k s u call true → Restores k u t calls whole
+      → Restores k s t (call ∷ calls) whole
+  go_restores s u t (Label bytes) calls whole places step rest =
+      let at = rw places at step in
+      let from = rw at.2 at rest in
+      (from.0, from.1, write_label at.1 from.2, from.3)
+  go_restores s u t (Block number bytes) calls whole places step rest =
+      let at = rw places at step in
+      let from = rw at.1 at rest in
+      let first = at.0.0 in
+      let own = subst (λ (f : Option ℕ). Writes s.dump f (Some (length bytes)) calls whole from.0 from.1) at.0.1 from.2 in (
+        placed first number bytes ∷ from.0,
+        from.1,
+        subst (λ (f : Option ℕ). Writes s.dump f s.block (Block number bytes ∷ calls) whole (placed first number bytes ∷ from.0) from.1) (sym at.0.1) (write_block at.0.2 own),
+        (λ old held.
+            let put = at.0.3 old held in
+            let after = from.3 put.0 put.1 in
+            (after.0, after.1, subst (λ (m : List ℕ). IsLeft from.1 (restored from.0 m) after.0) put.2 after.2)),
+      )
+  go_restores s u t Mark calls whole places step rest = let from = rw step at rest in (from.0, from.1, write_mark from.2, from.3)
+  go_restores s u t Complete calls whole places step rest =
+      let from = rw step.2 at rest in (
+        from.0,
+        from.1,
+        write_complete from.2,
+        (λ old held.
+            let kept = step.0 old held in
+            let after = from.3 kept.0 kept.1 in
+            (after.0, after.1, subst (λ (m : List ℕ). IsLeft from.1 (restored from.0 m) after.0) kept.2 after.2)),
+      )
 
--- all calls of a sink with places
-pub restores : {F : Type 0} (k : RestoredKind F) (s t : FiledSink F) (calls : List SinkCall) (whole : Bool) → s.places ≡ true
-    → Takes (FileStep k) s t calls whole → Restores k s t calls whole
-restores k s t calls whole places nothing = ([], None, no_write, (λ old held. (old, held, refl)))
-restores k s t calls whole places (accepted {t = u} {call = call} {calls = more} step rest) =
-    let one = step_goes_on k s u call true places step in
-    go_restores k s u t call more whole places step (restores k u t more whole (one.0 ∙ places) rest)
-restores k s t calls whole places (stopped {call = call} step) = stop_restores k s t call places step
+  -- all calls of a sink with places
+  pub restores : (s t : FiledSink F) (calls : List SinkCall) (whole : Bool) → s.places ≡ true → Takes (FileStep k) s t calls whole → Restores k s t calls whole
+  restores s t calls whole places nothing = ([], None, no_write, (λ old held. (old, held, refl)))
+  restores s t calls whole places (accepted {t = u} {call = call} {calls = more} step rest) =
+      go_restores s u t call more whole places step (restores u t more whole ((step_goes_on s u call true places step).0 ∙ places) rest)
+  restores s t calls whole places (stopped {call = call} step) = stop_restores s t call places step
 
 -- if all calls went on, no part of a block was left
 no_part : (dump : Option PlainLabel) (first block : Option ℕ) (calls : List SinkCall) (whole : Bool) (writes : List Placed) (part : Option Placed)
