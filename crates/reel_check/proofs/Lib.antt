@@ -1,3 +1,4 @@
+mod Words
 pub mod Blocks
 pub mod OneHolding
 pub mod NextLength

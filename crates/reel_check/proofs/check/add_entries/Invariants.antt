@@ -1,7 +1,4 @@
-use Rattle.std.proofs.Common.{◌-◌, ◌≡◌, ◌^◌}
-use Rattle.tape.specs.RecordFile.{medium_kind_of}
-use Rattle.tape.specs.FileSteps.{AreMediumCalls}
-use Rattle.reel_check.specs.Finding.{IsTalliedUpTo}
+use Rattle.reel_check.proofs.Words.{◌-◌, ◌≡◌, ◌^◌, medium_kind_of, AreMediumCalls, IsTalliedUpTo}
 use Rattle.reel_check.proofs.check.add_entries.Given as goal
 
 abbrev pub invariant-loop-length : goal.invariant-loop-length

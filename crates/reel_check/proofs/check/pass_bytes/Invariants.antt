@@ -1,6 +1,4 @@
-use Rattle.std.proofs.Common.{◌-◌, ◌≡◌, ◌≤◌}
-use Rattle.tape.specs.RecordFile.{medium_kind_of}
-use Rattle.tape.specs.FileSteps.{AreMediumCalls}
+use Rattle.reel_check.proofs.Words.{◌-◌, ◌≡◌, ◌≤◌, medium_kind_of, AreMediumCalls}
 use Rattle.reel_check.proofs.check.pass_bytes.Given as goal
 
 abbrev pub invariant-loop-passed : goal.invariant-loop-passed
