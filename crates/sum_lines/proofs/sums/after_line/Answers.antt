@@ -1,14 +1,13 @@
-use Rattle.std.proofs.Common.{◌≡◌, ◌++◌, ap, subst, ◌∙◌}
+use Rattle.std.proofs.Common.{◌++◌, ap, ◌∙◌}
 use Rattle.std.proofs.lemmas.Bool.Decides.{Decides-eqb}
 use Rattle.std.proofs.lemmas.Slice.Eq.{strip_prefix_is}
 use Rattle.sum_lines.specs.SumLine.{sum_line}
-use Rattle.sum_lines.specs.Reading.{FindsRest}
 use Rattle.sum_lines.proofs.LineText.{found_rest}
 use Rattle.sum_lines.proofs.sums.after_line.Goals as goal
 
 pub returns : goal.returns
 returns c =
     let text = c.as_slice.result.now in
-    let same : text ≡ sum_line c.args.line.now = c.as_slice.ensures.value ∙ c.in_ok-push_sum_line.ensures ∙ ap (λ t. t ++ sum_line c.args.line.now) c.clear.ensures.items in
-    subst (λ t. FindsRest t c.args.bytes.now c.strip_prefix.result) same
-    (found_rest text c.args.bytes.now c.strip_prefix.result (strip_prefix_is Decides-eqb c.args.bytes.now text c.strip_prefix.result c.strip_prefix.ensures.cases))
+    let same = c.as_slice.ensures.value ∙ c.in_ok-push_sum_line.ensures ∙ ap (λ t. t ++ sum_line c.args.line.now) c.clear.ensures.items in
+    rw same at (found_rest text c.args.bytes.now c.strip_prefix.result
+    (strip_prefix_is Decides-eqb c.args.bytes.now text c.strip_prefix.result c.strip_prefix.ensures.cases))
