@@ -38,7 +38,7 @@ from tests.lib.given import given
 from tests.tools import refusals
 from tests.tools.beside import Alone, Beside
 from tests.tools.controls import REFUSED, TOP, WAITS, Pair, applied, below, changed_at, module_of, names_of, pairs, places_of, verdicts
-from tests.tools.gate import checks_at_once
+from tests.tools.gate import KEEPS_MEMORY, checks_at_once
 from tests.tools.proved import Checked, Room, Work
 
 # How much lower the priority of checks beside `rt ci` is.
@@ -435,6 +435,7 @@ def main() -> int:
     if wrong:
         print(f"no further edits: {' '.join(wrong)}")
         return 2
+    os.environ.update(KEEPS_MEMORY)
     trials = [Trial(it, "--anew" in sys.argv) for it in asked or known]
     if "--beside" in sys.argv:
         os.nice(LOWER)
