@@ -20,7 +20,8 @@ as there are processors and memory for. What was refused over the same texts is 
     BAD EDIT        it can't be applied, or the prover can't read it
     NOT TRIED       its crate is not proved as it stands, or its check was killed
 
-and for each crate how many checks that took. It fails where an edit is not refused.
+and for each crate how many checks that took; then the edits that were refused at a limit of a search and do not say so by a line `# limit:`. It fails
+where an edit is not refused.
 """
 
 from __future__ import annotations
@@ -52,6 +53,9 @@ LIMIT = re.compile(r"antt ran out of (?:stack|the (?:steps|memory))|(?:outgrew t
 # A text of src/ or specs/ that it can't read: what is wrong there is not about a goal, or is about a name.
 OF_NAMES = "is not in scope|has no field|is no name|operand is missing|expected the end|cannot continue"
 UNREAD = re.compile(rf"^(?:\./)?(?:src|specs)/\S+: error: (?:(?!`)|.*(?:{OF_NAMES})).*", re.M)
+# What it says where its search gave up at a limit of its own, and the line of an edit that tells of a limit.
+GAVE_UP = "gave up at one of its limits"
+TOLD = re.compile(r"^# limit: ", re.M)
 # What it says of a proof file that names what the edit took away, or what was refused elsewhere.
 NAMES = re.compile(r"has no field|is not in scope|has no `|was not admitted|which was rejected, was not checked")
 # What it says of a function that waits for others.
@@ -375,6 +379,11 @@ class Trial:
         tried = f", {len(self.kept)} of them kept" if self.kept else ""
         return "\n".join([*lines, f"{self.crate}: {len(self.found)} further edits{tried}; {how}"])
 
+    def untold(self) -> list[str]:
+        """The edits that were refused since a search gave up at a limit, and that have no line `# limit:`."""
+        at_limit = [it for it in self.files if GAVE_UP in self.found.get(it.stem, "")]
+        return [f"{self.crate}/{it.stem}" for it in at_limit if not TOLD.search(it.read_text(encoding="utf-8"))]
+
     def failed(self) -> int:
         return sum(not it.startswith(refusals.REFUSED) for it in self.found.values())
 
@@ -444,6 +453,8 @@ def main() -> int:
         try_all(trials)
     refusals.forget_old()
     count, failed = sum(len(it.found) for it in trials), sum(it.failed() for it in trials)
+    if untold := [name for it in trials for name in it.untold()]:
+        print(f"a search gave up at a limit, and the edit has no line `# limit:`: {', '.join(untold)}")
     print(f"further edits: {count - failed} refused, {failed} not")
     return 1 if failed else 0
 

@@ -368,6 +368,7 @@ class Kept(Made):
 
 PROVED = proved.Checked(0, "only=1 proved=1")
 REFUSED = proved.Checked(1, "fn words::Words::count: not proved\nonly=1 proved=0")
+LIMITED = proved.Checked(1, f"note: src/lib.rt:5:1: it is not proved (`returns`); `search` {further.GAVE_UP}\n{REFUSED.log}")
 
 
 class Answering(proved.Work):
@@ -419,6 +420,12 @@ class Trials(Made):
         found = again.left(), again.failed(), "(kept)" in again.told("no checks")
         self.same("and is not tried again", found, ([], 0, True), again.found)
         self.same("but where all are asked for", self.left(is_anew=True), ["counts_one_less"])
+
+    def test_refused_at_a_limit(self) -> None:
+        trial = self.tried(Answering(LIMITED))
+        self.same("one at whose goal a search gave up", trial.untold(), ["words/counts_one_less"], trial.found)
+        trial.files[0].write_text(f"# limit: the clause of `Words::count`.\n{trial.files[0].read_text()}")
+        self.same("one that tells it", trial.untold(), [], trial.found)
 
     def test_a_comment_that_has_the_text(self) -> None:
         trial = self.tried(Answering(REFUSED))
