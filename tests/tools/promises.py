@@ -61,8 +61,8 @@ is proved of every function, and what is trusted. [TESTED.md](TESTED.md) says wh
 ABOUT_LIMITS = """\
 The prover searches for a proof by *tactics*, and each tactic has a limit. For the edits in this list, a tactic reached its limit before it had tried
 everything. So the refusal alone does not show that the edit breaks a promise. For each edit, the list names the clauses that the prover could not
-prove for the wrong code. With the same tactics, the prover proves the control of the edit. The list is not complete: of some other edits, too, the
-output of `make test` says that a search gave up at one of its limits.
+prove for the wrong code. With the same tactics, the prover proves the control of the edit. If a search gave up at an edit that is missing in the
+list, `make test` names the edit at its end.
 """
 ABOUT_UNCONTROLLED = """\
 An edit in this list has no control: right code for the same place, which the prover accepts. So the prover may refuse the edit only because the code

@@ -1,10 +1,10 @@
 -- Drives, stacks and bin in memory: what is told of them is moved as they are.
-use Rattle.std.proofs.Common.{◌≡◌, ℕ, ◌+◌, ◌<◌, ◌≤◌, List, [], ◌∷◌, ◌++◌, length, map, flat_map, take, drop, Option, Some, Result, Ok, Err, refl, sym, ap, ◌∙◌, subst, inl, inr, arith, get_or, set}
+use Rattle.std.proofs.Common.{◌≡◌, ℕ, ◌+◌, ◌<◌, ◌≤◌, List, [], ◌∷◌, ◌++◌, length, map, flat_map, take, drop, Option, Some, None, is_some, IsSome, true, Result, Ok, Err, refl, sym, ap, ◌∙◌, subst, inl, inr, arith, get_or, set}
 use Rattle.drives.proofs.Names.{get_or-map, get_or_default, map-set, map-append, length-map, sum_by, bytes_eq-Decides, option_map, TroubledTape}
 use Rattle.drives.proofs.Names.{ReelSlot, slot, Drive, drive_with, LibraryOf, TapeLibrary, library, drive_at, with_drive_at, slots_in, names_of}
 use Rattle.drives.proofs.Names.{names_in, times, EachReelOnce, IsDriveNamed, waiting_reel, with_first, at_first, to_bin, ListLibrary, with_library}
 use Rattle.drives.proofs.Names.{with_reel, blank_reel, at_rest, rest_slot, rest_drive, library_of, IsLibrary, is_set_in, StacksCanFail}
-use Rattle.drives.proofs.Names.{IsDriveAdded, IsReelAdded, IsStocked, DriveFault}
+use Rattle.drives.proofs.Names.{first_reel, after_failure, IsDriveAdded, IsReelAdded, IsReelLatched, IsStocked, DriveFault, Device}
 use Rattle.std.proofs.lemmas.Simd.{map-map}
 use Rattle.drives.proofs.Shops.{bit, named, times_named, length_sum, sum_by_added, slots_drive, KeepsNames, once_kept, length_kept, keeps_at_first, keeps_to_bin, bin_below, bin_within}
 
@@ -62,6 +62,18 @@ named_rest s name found h t tells = grind (arith, drive_at_rest s, length-map s.
 pub read_at : (s : LibraryOf TroubledTape) (d : ℕ) (old : Drive TroubledTape) → d < length s.drives → old ≡ get_or s.drives d old → old ≡ drive_at s d
 read_at s d old l e = e ∙ get_or_default s.drives d old (drive_with [] []) l
 
+-- the stack of a drive that was read out of the list
+pub stack_at : {s now : ListLibrary} {old : Drive TroubledTape} {stack : List (ReelSlot TroubledTape)} (d : ℕ) → s ≡ now → d < length now.library.drives → old ≡ get_or s.library.drives d old → stack ≡ old.stack
+    → stack ≡ (drive_at now.library d).stack
+stack_at {s} {now} {old} d same l e is = grind (arith, read_at now.library d old l)
+
+-- a latch that the trouble refused, where a reel was waiting
+pub latch_fails : {s old new : ListLibrary} {r : Drive TroubledTape} (d : ℕ) (fault : DriveFault) → s ≡ old → s.trouble ≡ true → d < length old.library.drives → r ≡ get_or s.library.drives d r → IsSome (first_reel r.stack)
+    → fault ≡ Device → new ≡ after_failure old → IsReelLatched old d (Err fault) new
+latch_fails {s} {old} {new} {r} d fault same on l e some is failed =
+    let at : r ≡ drive_at old.library d = grind (arith, read_at old.library d r l) in
+    rw is (grind arith, rw at at some, failed)
+
 -- what the fields keep, for a drive that was read out of the list and is put back with another first reel
 pub stocked_first : (s : LibraryOf TroubledTape) (d : ℕ) (old new : Drive TroubledTape) (reel : Option TroubledTape) (reels room : ℕ) → d < length s.drives → old ≡ get_or s.drives d old
     → new ≡ drive_with old.name (with_first reel old.stack) → IsStocked s reels room → IsStocked (library (set s.drives d new) s.bin) reels room
@@ -87,6 +99,19 @@ stocked_moved s now d old new first reel bin reels room more v l some e f n b m 
     let moved = stocked_kept s.library (to_bin s.library d reel) reels room more (keeps_to_bin s.library d reel l some) (omega (arith, m)) h in
     let same : library (set s.library.drives d new) bin ≡ to_bin s.library d reel = grind arith in
     rw same moved
+
+-- the library after the first reel of a drive was moved to the bin
+pub moved_is : {s now : ListLibrary} {old new : Drive TroubledTape} {first : ReelSlot TroubledTape} {bin : List (ReelSlot TroubledTape)} (d : ℕ) (reel : TroubledTape) → s ≡ now → d < length now.library.drives
+    → old ≡ get_or s.library.drives d old → old.stack ≡ first ∷ new.stack → new.name ≡ old.name → bin ≡ s.library.bin ++ slot first.name (Some reel) ∷ []
+    → record s { library = library (set s.library.drives d new) bin } ≡ with_library now (to_bin now.library d reel)
+moved_is {s} {now} {old} {new} d reel v l e f n b =
+    let is = read_at now.library d old l in
+    grind (arith, is)
+
+-- a name that is found is a drive's
+pub named_some : {X : Type 0} (name : List ℕ) (s : LibraryOf X) (found : Option ℕ) → IsDriveNamed name s found → true ≡ is_some found → (d : ℕ) × IsDriveNamed name s (Some d)
+named_some name s None h some = absurd cc
+named_some name s (Some d) h some = (d, h)
 
 -- a drive more
 pub keeps_drive : {X : Type 0} (s : LibraryOf X) (name : List ℕ) → KeepsNames s (library (s.drives ++ drive_with name [] ∷ []) s.bin)

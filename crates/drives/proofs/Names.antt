@@ -4,10 +4,10 @@ pub use Rattle.drives.specs.Arranging.{IsArranged, are_distinct, arranged, is_am
 pub use Rattle.drives.specs.Arranging.{slot_named, without}
 pub use Rattle.drives.specs.Calls.{StacksCall, StacksKind, drive_latched, drive_left, moved_result, stacks_kind}
 pub use Rattle.drives.specs.Calls.StacksCall.{Latch, LayBack, Move}
-pub use Rattle.drives.specs.Holding.{HoldsJust, given, has, holder_after_give, holder_after_take, last_drive, newcomer, taken}
-pub use Rattle.drives.specs.ListLibrary.{IsDriveAdded, IsLibrary, IsListStacksCall, IsReelAdded, IsStocked, ListLibrary, MovesTroubles, StacksCanFail}
-pub use Rattle.drives.specs.ListLibrary.{at_rest, blank_reel, is_set_in, library_of, rest_drive, rest_slot, with_library, with_reel}
-pub use Rattle.drives.specs.Local.{AreHolders, IsSeatOf, holders}
+pub use Rattle.drives.specs.Holding.{HoldsJust, given, has, holder_after_give, holder_after_take, last_drive, moved, newcomer, taken}
+pub use Rattle.drives.specs.ListLibrary.{IsDriveAdded, IsLibrary, IsListStacksCall, IsReelAdded, IsReelLatched, IsStocked, ListLibrary, MovesTroubles, StacksCanFail}
+pub use Rattle.drives.specs.ListLibrary.{after_failure, at_rest, blank_reel, is_set_in, library_of, rest_drive, rest_slot, with_library, with_reel}
+pub use Rattle.drives.specs.Local.{AreHolders, Holders, IsHeldBy, IsSeatOf, holders}
 pub use Rattle.drives.specs.Opening.{Kinds, LatchesFor, OpenStep, SeatStep, drive_asked, found_in_open, kinds}
 pub use Rattle.drives.specs.Stacking.{HasLatched, IsStacksCall, LibraryStep}
 pub use Rattle.drives.specs.TapeLibrary.{Drive, EachReelOnce, IsDriveNamed, LibraryOf, ReelSlot, TapeLibrary, at_first, drive_at}
@@ -15,8 +15,9 @@ pub use Rattle.drives.specs.TapeLibrary.{drive_with, first_reel, latched_at, lat
 pub use Rattle.drives.specs.TapeLibrary.{waiting_reel, with_drive_at, with_first}
 pub use Rattle.drives.specs.contracts.list.ListStacks.{the_view}
 pub use Rattle.drives.specs.declared.fault.DriveFault.{DriveFault}
-pub use Rattle.drives.specs.declared.fault.DriveFault.TheVariants.{Busy, NameTaken, NoSuchDrive}
+pub use Rattle.drives.specs.declared.fault.DriveFault.TheVariants.{Busy, Device, NameTaken, NoSuchDrive}
 pub use Rattle.drives.specs.declared.holds.TheConstants.{DRIVE_LIMIT}
+pub use Rattle.drives.specs.declared.view.LastStep.{LastStep}
 pub use Rattle.drives.specs.declared.view.View.{View}
 pub use Rattle.std.proofs.Math.ListN.{get_or-map, length-set}
 pub use Rattle.std.proofs.lemmas.Bool.{ltb-true}

@@ -1,5 +1,5 @@
 -- The bytes of a writer spell its reply or its request, also if the writer writes them in two parts.
-use Rattle.rmt_wire.proofs.Words.{Err, List, Ok, OnErr, Option, Result, [], ap, append-nil, append_assoc, arith, decimal, inl, length, length-append, min, refl, subst, sym, take, ℕ, ◌++◌, ◌+◌, ◌∙◌, ◌∷◌, ◌≡◌, ◌≤◌, Appends-trans, take-append-add, nil_from_length, take-append-le, take_all, take_min, Appends, SpellsNumber, line_feed, IsLine, PlainRequest, SpellsRequest, HasSpelling, request_text, unsent, IsTextOf, WriteDropped, Open, Close, Write, Read, Op, PlainReply, Wanted, SpellsReply, ReplyHasSpelling, AnswersTo, data_length, reply_text, Error, Done, Data, Number, DataUpTo, IsWithin, AppendsBeginning, RECORD_LIMIT, READER_LIMIT}
+use Rattle.rmt_wire.proofs.Words.{Err, List, Ok, OnErr, OnOk, Option, Result, [], ap, append-nil, append_assoc, arith, decimal, inl, length, length-append, min, refl, subst, sym, take, ℕ, ◌++◌, ◌+◌, ◌∙◌, ◌∷◌, ◌≡◌, ◌≤◌, Appends-trans, take-append-add, nil_from_length, take-append-le, take_all, take_min, Appends, SpellsNumber, line_feed, IsLine, PlainRequest, SpellsRequest, HasSpelling, request_text, unsent, IsTextOf, WriteDropped, Open, Close, Write, Read, Op, PlainReply, Wanted, SpellsReply, ReplyHasSpelling, AnswersTo, data_length, reply_text, Error, Done, Data, Number, DataUpTo, IsWithin, AppendsBeginning, RECORD_LIMIT, READER_LIMIT}
 use Rattle.rmt_wire.proofs.Align.{digits_no_feed}
 use Rattle.std.proofs.lemmas.Fmt.{decimal_is_IsNumeral, length-decimal-le}
 
@@ -72,3 +72,8 @@ beginning_past_first old mid new first rest whole (n, out) =
 pub at_failure : {T E P : Type 0} (r : Result T E) → P → OnErr r P
 at_failure (Ok x) p = tt
 at_failure (Err e) p = p
+
+-- and at a success
+pub at_success : {T E P : Type 0} (r : Result T E) → P → OnOk r P
+at_success (Ok x) p = p
+at_success (Err e) p = tt

@@ -1,5 +1,5 @@
 -- The words of std and of the specs that proofs use.
-pub use Rattle.std.proofs.Common.{zero-add, Bool, Err, List, None, Ok, OnErr, Option, Result, Some, [], add-zero, ap, append-nil, append_assoc, arith, cond, decimal, drop, eqb, false, get_or, if◌then◌else◌, inl, inr, is_some, length, length-append, length-drop, ltb, min, not, refl, replicate, rules, subst, suc, sym, take, take-append-drop, true, zero, ℕ, ⊎_elim, ◌*◌, ◌++◌, ◌+◌, ◌-◌, ◌<◌, ◌==◌, ◌↔◌, ◌∙◌, ◌∷◌, ◌≡◌, ◌≢◌, ◌≤◌, ◌⊎◌}
+pub use Rattle.std.proofs.Common.{zero-add, Bool, Err, List, None, Ok, OnErr, OnOk, Option, Result, Some, [], add-zero, ap, append-nil, append_assoc, arith, cond, decimal, drop, eqb, false, get_or, if◌then◌else◌, inl, inr, is_some, length, length-append, length-drop, ltb, min, not, refl, replicate, rules, subst, suc, sym, take, take-append-drop, true, zero, ℕ, ⊎_elim, ◌*◌, ◌++◌, ◌+◌, ◌-◌, ◌<◌, ◌==◌, ◌↔◌, ◌∙◌, ◌∷◌, ◌≡◌, ◌≢◌, ◌≤◌, ◌⊎◌}
 pub use Rattle.std.proofs.KnownBytes.{Appends-trans, Consumes-kept, Consumes-trans}
 pub use Rattle.std.proofs.Math.Seq.{take-add, take-append-add}
 pub use Rattle.std.proofs.lemmas.Bool.{cases_lt}

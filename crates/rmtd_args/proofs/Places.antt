@@ -10,7 +10,7 @@ use Rattle.std.proofs.lemmas.Slice.Eq.{bytes_eq-Decides}
 abbrev pub said : List (Bor (List ℕ)) → List PlainDrive
 said xs = map split_of (map (λ s. s.now) xs)
 
-length_said : (xs : List (Bor (List ℕ))) → length (said xs) ≡ length xs
+pub length_said : (xs : List (Bor (List ℕ))) → length (said xs) ≡ length xs
 length_said xs = length-map (map (λ (s : Bor (List ℕ)). s.now) xs) split_of ∙ length-map xs (λ (s : Bor (List ℕ)). s.now)
 
 said_at : (xs : List (Bor (List ℕ))) (i : ℕ) (d : Bor (List ℕ)) (z : PlainDrive) → i < length xs → get_or (said xs) i z ≡ split_of (get_or xs i d).now

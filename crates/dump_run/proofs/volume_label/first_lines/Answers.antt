@@ -53,3 +53,13 @@ returns c =
     let label = plain_label c.in_ok-name.name.now c.in_ok-level.level c.in_ok-date.date c.in_ok-base.base c.in_ok-volume.volume c.in_ok-first.first in
     let limits : IsLabel label = grind arith in
     rw (c.from_parts-label.ensures, c.from_parts-id.ensures) (limits, at_end.split ∙ sym (joined_list label c.in_ok-first.rest.now))
+
+pub from_parts-label-requires : goal.from_parts-label-requires
+from_parts-label-requires c = rw c.from_parts-id.ensures record {
+  name = c.in_ok-name.ensures.found.0;
+  level = c.in_ok-level.ensures.0.1;
+  date = c.in_ok-date.ensures.0.1;
+  since = c.in_ok-base.ensures.0.1;
+  volume = c.in_ok-volume.ensures.0;
+  first = c.in_ok-first.ensures.0.1;
+}

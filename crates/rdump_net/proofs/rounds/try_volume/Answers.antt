@@ -12,3 +12,9 @@ returns-clause-printed g c =
     let lines = lines_since c.args.client.now.at.counts new.at.counts c.volumes-before.result c.volumes-before.ensures c.attempt-attempted.ensures.grows in
     round_after g.W.Write.contents c.args.client.now.at.counts new.at.counts new.at c.args.out.now c.print_since.new.out c.report.new.out _ c.report.result
     lines (rw c.if-not-print_since.false at c.print_since.ensures) c.report.ensures.printed
+
+pub returns-then-not-print_since-clause-booked : goal.returns-then-not-print_since-clause-booked
+returns-then-not-print_since-clause-booked g c = rw c.volumes-before.ensures at c.enter_counts.ensures
+
+pub returns-clause-booked : goal.returns-clause-booked
+returns-clause-booked g c = rw c.volumes-before.ensures at c.enter_counts.ensures

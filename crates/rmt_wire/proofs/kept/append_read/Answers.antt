@@ -28,3 +28,15 @@ returns-in-Ok-clause-came g c =
       read_behind old (take c.len-len.result seen) buf _ _ _ c.len-len.result count _ c.truncate.ensures.items len front within.0 fits,
       c.in-Ok.ensures.bytes.0,
     )
+
+pub returns-in-Ok-clause-most : goal.returns-in-Ok-clause-most
+returns-in-Ok-clause-most g c =
+    omega (
+      arith,
+      c.in-Ok.ensures.bound.0,
+      c.read.auto.buf,
+      ap (length {A = ℕ}) c.as_mut_slice.ensures.value,
+      c.advance_mut.ensures.len,
+      length-take {A = ℕ},
+      length-drop {A = ℕ},
+    )

@@ -1,5 +1,9 @@
-use Rattle.drives.proofs.ListLibrary.{drive_told, drive_quiet, told}
+use Rattle.std.proofs.Common.{refl}
+use Rattle.drives.proofs.ListLibrary.{drive_told, drive_quiet, named_some, told}
 use Rattle.drives.proofs.list.ListStacks.add_drive.Goals as goal
+
+pub returns-then-is_some-clause-added : goal.returns-then-is_some-clause-added
+returns-then-is_some-clause-added c = (named_some c.args.name.now c.args.self.now.library c.number_of.result c.number_of.ensures.found c.if-is_some.ensures, refl)
 
 pub returns-then-is_some-clause-told : goal.returns-then-is_some-clause-told
 returns-then-is_some-clause-told c = told c.args.self.now c.number_of.ensures.once

@@ -1,7 +1,7 @@
 use Rattle.drives.proofs.Names.{the_view}
-use Rattle.std.proofs.Common.{◌<◌, vec_capacity, sym, subst, ap, ◌∙◌, ◌++◌, ◌∷◌, []}
+use Rattle.std.proofs.Common.{◌<◌, vec_capacity, refl, sym, subst, ap, ◌∙◌, ◌++◌, ◌∷◌, []}
 use Rattle.drives.proofs.Elsewhere.{value_some}
-use Rattle.drives.proofs.ListLibrary.{stocked_moved, read_some, room_some}
+use Rattle.drives.proofs.ListLibrary.{stocked_moved, moved_is, read_some, room_some}
 use Rattle.drives.proofs.list.ListStacks.move_first.Goals as goal
 
 pub remove_first-listed-requires : goal.remove_first-listed-requires
@@ -23,6 +23,15 @@ invariant_of-self c =
 
 pub returns-then-self-clause-once : goal.returns-then-self-clause-once
 returns-then-self-clause-once c = rw (← c.self.view_is) c.self.invariant.once
+
+pub returns-then-self-clause-back : goal.returns-then-self-clause-back
+returns-then-self-clause-back c = refl
+
+pub returns-clause-moved : goal.returns-clause-moved
+returns-clause-moved c = (
+  ap (λ s. s.trouble) (sym c.self.view_is) ∙ c.if-self.false,
+  moved_is c.args.drive c.args.reel c.self.view_is c.requires.drive c.index_mut-chosen.ensures.value c.remove_first-listed.ensures.first c.remove_first-listed.ensures.name (cc),
+)
 
 pub returns-clause-once : goal.returns-clause-once
 returns-clause-once c = rw (← c.self.view_is) c.self.invariant.once

@@ -1,5 +1,5 @@
 use Rattle.drives.proofs.Names.{None, library}
-use Rattle.drives.proofs.ListLibrary.{stocked_first}
+use Rattle.drives.proofs.ListLibrary.{stocked_first, latch_fails}
 use Rattle.drives.proofs.list.ListStacks.take_first.Goals as goal
 
 pub invariant_of-self : goal.invariant_of-self
@@ -11,6 +11,9 @@ pub invariant_of-self-2 : goal.invariant_of-self-2
 invariant_of-self-2 c =
     stocked_first (library c.self.inside.drives.items c.self.inside.bin.items) c.args.drive c.index_mut-chosen.result.now c.latch.new.self None _ _
     (rw (← c.self.view_is) at c.requires) c.index_mut-chosen.ensures.value c.latch.ensures.away c.self.invariant
+
+pub returns-then-is_ready-clause-latched : goal.returns-then-is_ready-clause-latched
+returns-then-is_ready-clause-latched c = latch_fails c.args.drive _ c.self.view_is c.if-self.true c.requires c.index-chosen.ensures c.if-is_ready.ensures (cc) (cc)
 
 pub returns-then-is_ready-clause-once : goal.returns-then-is_ready-clause-once
 returns-then-is_ready-clause-once c = rw (← c.self.view_is) c.self.invariant.once

@@ -1,4 +1,4 @@
-use Rattle.dump_client.proofs.Attempt.{[], arith, rules, common_steps}
+use Rattle.dump_client.proofs.Attempt.{◌≡◌, [], arith, rules, common_steps, Close}
 use Rattle.dump_client.proofs.Listening.{waiting_anew}
 use Rattle.dump_client.proofs.client.Client.next_request.Goals as goal
 
@@ -12,3 +12,9 @@ pub returns-in-Err-2-clause-asked : goal.returns-in-Err-2-clause-asked
 returns-in-Err-2-clause-asked g c =
     let h = c.in-Err.ensures.appended in
     rw (← c.self.view_is, ← c.in-ToSend.ensures.value) (search rules, h.0, h.1, c.fail.ensures.failed.1)
+
+pub returns-in-Err-clause-asked : goal.returns-in-Err-clause-asked
+returns-in-Err-clause-asked g c =
+    let h = c.in-Err.ensures.appended in
+    let close : c.in-ToSend.step ≡ Close = grind arith in
+    rw (← c.self.view_is, ← c.in-ToSend.ensures.value) (close, grind (arith, h.0), h.1, c.finish.ensures.over.1)

@@ -8,3 +8,6 @@ returns-clause-failures g c =
 pub returns-clause-unfailed : goal.returns-clause-unfailed
 returns-clause-unfailed g c = λ idle.
     passed_well c.self.view_is c.pass.ensures.same g.M.Medium.failures c.count_call.ensures.new c.pass.ensures.new c.len-found.ensures.same
+
+pub returns-then-count_call-clause-kept : goal.returns-then-count_call-clause-kept
+returns-then-count_call-clause-kept g c = λ due. cc

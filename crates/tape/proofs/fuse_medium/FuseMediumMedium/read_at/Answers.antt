@@ -1,3 +1,4 @@
+use Rattle.tape.proofs.Words.{refl}
 use Rattle.tape.proofs.Fuses.{passed_count, passed_well}
 use Rattle.tape.proofs.fuse_medium.FuseMediumMedium.read_at.Goals as goal
 
@@ -8,3 +9,9 @@ returns-clause-failures g c =
 pub returns-clause-unfailed : goal.returns-clause-unfailed
 returns-clause-unfailed g c = λ idle.
     passed_well c.self.view_is c.pass.ensures.same g.M.Medium.failures c.count_call.ensures.new c.pass.ensures.new c.read_at-found.ensures.call.same
+
+pub returns-then-count_call-clause-kept : goal.returns-then-count_call-clause-kept
+returns-then-count_call-clause-kept g c = λ due. cc
+
+pub returns-then-count_call-clause-buffer : goal.returns-then-count_call-clause-buffer
+returns-then-count_call-clause-buffer g c = λ due. refl
