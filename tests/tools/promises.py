@@ -62,7 +62,8 @@ ABOUT_LIMITS = """\
 The prover searches for a proof by *tactics*, and each tactic has a limit. For the edits in this list, a tactic reached its limit before it had tried
 everything. So the refusal alone does not show that the edit breaks a promise. For each edit, the list names the clauses that the prover could not
 prove for the wrong code. With the same tactics, the prover proves the control of the edit. If a search gave up at an edit that is missing in the
-list, `make test` names the edit at its end.
+list, `make test` names the edit at its end. The list does not contain edits that are refused because an answer in a proof file does not prove the
+wrong code. There, the prover tries no other proof.
 """
 ABOUT_UNCONTROLLED = """\
 An edit in this list has no control: right code for the same place, which the prover accepts. So the prover may refuse the edit only because the code
