@@ -8,7 +8,7 @@ FEED := crates/bench_feed/out/bench_feed
 MINUTES := out/minutes.txt
 RATIOS := out/bench.tsv
 PROGRAMS := rmtd rdump rsim
-TOOL_TESTS := $(addprefix tests.tools.,test_further test_promises test_counts test_bench test_imports)
+TOOL_TESTS := $(addprefix tests.tools.,test_further test_promises test_counts test_bench test_imports test_tested)
 
 PREFIX ?= /usr/local
 DESTDIR ?=
@@ -42,6 +42,7 @@ test: kit ## the gate: each proof from nothing, each wrong body that has to be r
 	python3 -m tests.tools.examples
 	python3 -m tests.tools.messages
 	python3 -m tests.tools.links
+	python3 -m tests.tools.tested
 	python3 -m unittest -q $(TOOL_TESTS)
 	python3 -m tests.tools.gate --minutes $(MINUTES)
 	@cat $(MINUTES)

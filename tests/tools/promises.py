@@ -50,7 +50,7 @@ This page says what each public function promises, clause by clause, and lists w
 - Below the name are the promises of the contract. Each promise follows the names of its clauses. If a contract has only one clause, the clause has no
   name. If a call has no contract, only its safety is proved. Some private calls are listed too, because an edit breaks one of their clauses.
 - `refused` lists *edits*. An edit replaces code by wrong code that breaks the promise, and the prover refuses the wrong code. The edit `crate/name`
-  is the file `name.edit` in `crates/crate/must-fail/` or in `crates/crate/further/`. `make test` tries all edits. The file `name.control.md` beside
+  is the file `NAME.edit` in `crates/CRATE/must-fail/` or in `crates/CRATE/further/`. `make test` tries all edits. The file `NAME.control.md` beside
   an edit is the *control* of the edit: right code for the same place, which the prover accepts. The control shows that the prover refuses the edit
   because its code is wrong, and not because the text was changed.
 
