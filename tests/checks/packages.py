@@ -734,11 +734,15 @@ class Installed(PackageCase):
         """Who reaches the server: its user and the members of the group tape."""
         on = self.on
         found = on.modes("/run/rmtd", "/run/rmtd/socket")
-        self.same("server: its folder and its socket", found, ["rmtd tape 750 /run/rmtd", "rmtd tape 770 /run/rmtd/socket"])
+        self.same("server: its folder and its socket", found, ["rmtd tape 710 /run/rmtd", "rmtd tape 770 /run/rmtd/socket"])
         for it in ("ann", "bob"):
             on.done("useradd", "--no-create-home", "--user-group", it)
         on.lay("r2")
         self.same("server: a member of the group is served", on.mt("ann", "tape"), (0, "A1\n"))
+        # A server whose folder is locked can't take the place of the socket of an earlier one.
+        got = on.run("flock", "--nonblock", "/run/rmtd", "true", user="ann", groups="tape")
+        is_refused = got.returncode != 0 and b"Permission denied" in got.stdout
+        self.holds("server: a member of the group can't lock its folder", is_refused, got.returncode, got.stdout)
         self.same("server: its own user is served", on.mt("rmtd"), (0, "A1\n"))
         message = "rdump: unix:/run/rmtd/socket: Permission denied (os error 13)\n"
         self.same("server: another user is not", on.mt("bob"), (3, message))
