@@ -36,8 +36,9 @@ CHANGELOG = """{package} ({version}) unstable; urgency=medium
 """
 # The libraries that the programs need, if there is no dpkg-shlibdeps.
 LIBRARIES = "libc6 (>= 2.34), libgcc-s1"
-# Paths in the files of etc/, and what a package has in their place. They are replaced in this order.
+# Paths in the files of etc/ and man/, and what a package has in their place. They are replaced in this order.
 MOVED = (
+    ("/usr/local/share/doc/rdump/", "/usr/share/doc/{package}/docs/"),
     ("/usr/local/sbin/tapes", "/usr/lib/rmtd/tapes"),
     ("/usr/local/sbin/rmtd", "/usr/sbin/rmtd"),
     ("/usr/local/sbin/rdump", "/usr/sbin/rdump"),
@@ -143,10 +144,10 @@ def libraries_of(programs: list[Path]) -> str:
     return found.partition("shlibs:Depends=")[2]
 
 
-def moved(content: bytes) -> bytes:
-    """A file of etc/ with the paths that it has in a package."""
+def moved(content: bytes, package: str) -> bytes:
+    """A file of etc/ or man/ with the paths that it has in a package."""
     for here, there in MOVED:
-        content = content.replace(here.encode(), there.encode())
+        content = content.replace(here.encode(), there.format(package=package).encode())
     return content
 
 
@@ -155,13 +156,13 @@ def compressed(content: bytes) -> bytes:
     return subprocess.run(("gzip", "-9n"), input=content, stdout=subprocess.PIPE, check=True).stdout
 
 
-def content_of(it: Packed, programs: dict[str, Path]) -> bytes:
+def content_of(it: Packed, package: str, programs: dict[str, Path]) -> bytes:
     """The bytes of a packed file."""
     if it.source in programs:
         return programs[it.source].read_bytes()
     content = TOP.joinpath(it.source).read_bytes()
-    if it.source.startswith("etc/"):
-        content = moved(content)
+    if it.source.startswith(("etc/", "man/")):
+        content = moved(content, package)
     return compressed(content) if it.to.endswith(".gz") else content
 
 
@@ -175,7 +176,7 @@ def put(path: Path, content: bytes, mode: int) -> None:
 def fill(root: Path, package: str, build: Build) -> None:
     """Writes the files of a package below a folder."""
     for it in PACKAGES[package]:
-        put(root / it.to, content_of(it, build.programs), it.mode)
+        put(root / it.to, content_of(it, package, build.programs), it.mode)
         if it.source in build.programs and shutil.which("strip"):
             output("strip", "--strip-unneeded", "--remove-section=.comment", str(root / it.to))
     date = time.strftime("%a, %d %b %Y %H:%M:%S +0000", time.gmtime(build.seconds))

@@ -188,6 +188,12 @@ def libraries_of(program: str) -> set[str]:
     return {"jiff" if it.startswith("jiff_") else it for it in uses} | ({"strsim"} if "clap" in uses else set())
 
 
+def content_of(file: Path) -> bytes:
+    """The bytes of a file. One that is compressed is unpacked."""
+    content = file.read_bytes()
+    return subprocess.run(("gzip", "-dc"), input=content, stdout=subprocess.PIPE, check=True).stdout if file.suffix == ".gz" else content
+
+
 def section_of(text: str, title: str) -> dict[str, str]:
     """The settings of a section of a unit."""
     lines = text.partition(f"[{title}]\n")[2].partition("\n[")[0].splitlines()
@@ -296,13 +302,20 @@ class Packed(PackageCase):
         for name in self.packages:
             root = self.unpacked(name)
             for it in (it for it in root.rglob("*") if it.is_file()):
-                content = it.read_bytes()
-                if it.suffix == ".gz":
-                    content = subprocess.run(("gzip", "-dc"), input=content, stdout=subprocess.PIPE, check=True).stdout
-                path = it.relative_to(root)
+                content, path = content_of(it), it.relative_to(root)
                 self.same(f"{name}: {path} names no place of this machine", [place for place in places if place in content], [])
                 if "share" not in path.parts:
                     self.same(f"{name}: {path} has the paths of a package", [place for place in FOREIGN if place in content], [])
+
+    def test_paths_of_manual_pages(self) -> None:
+        """Each file below /usr that a manual page names is in the page's package."""
+        for name in self.packages:
+            root = self.unpacked(name)
+            for it in sorted(root.joinpath("usr/share/man").rglob("*.gz")):
+                named = set(re.findall(r"/usr/[\w./-]*\w", content_of(it).decode()))
+                self.holds(f"{name}: {it.name} names files", named)
+                missing = [path for path in sorted(named) if not root.joinpath(path[1:]).is_file()]
+                self.same(f"{name}: the files that {it.name} names are in the package", missing, [])
 
     def unpacked(self, name: str) -> Path:
         """The files of a package, and those of its control archive in DEBIAN."""
