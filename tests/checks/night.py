@@ -27,7 +27,7 @@ from typing import Callable, NamedTuple
 from tests.lib import machines
 from tests.lib.case import Case, random_seed
 from tests.lib.connections import wait_for
-from tests.lib.dumping import PAYLOAD
+from tests.lib.dumping import DAY, PAYLOAD, label
 from tests.lib.ended import ABNORMAL, DONE, Ended
 from tests.lib.given import given
 from tests.lib.inside import is_inside, run_inside
@@ -103,10 +103,16 @@ PROTECTED = "rdump: 127.0.0.1:4711: protected: the first reel of /dev/st0 {}; la
 REASONS = (
     ("volume 1 failed: Refused 2", "", True),
     ("volume 12 failed: Refused 22", "", True),
+    ("volume 1 failed: Refused 9", "", True),
+    ("volume 1 failed: Refused 13", "", True),
     ("volume 1 failed: Botched", "", True),
+    ("volume 1 failed: ShortWrite", "", True),
     ("volume 1 failed: SourceFault", "", True),
     ("volume 1 failed: ReelTooSmall", "", True),
+    ("volume 12 failed: CountedReel 3", "rdump: 127.0.0.1:4711: CountedReel 3: the first reel of the stack of /dev/st0 begins with ..", True),
     ("", LOOK.format(2, 2), True),
+    ("", LOOK.format(9, 9), True),
+    ("", LOOK.format(13, 13), True),
     ("", LOOK.format(22, 22), True),
     ("", "rdump: 127.0.0.1:4711: the look failed: no reply by the protocol", True),
     ("", PROTECTED.format("has a volume of another dump: /usr level 0 date 951782400, volume 1"), True),
@@ -114,11 +120,17 @@ REASONS = (
     ("", PROTECTED.format("begins with a mark"), True),
     ("volume 1 failed: Refused 5", "", False),
     ("volume 1 failed: Refused 6", "", False),
+    ("volume 1 failed: Refused 12", "", False),
     ("volume 1 failed: Refused 16", "", False),
     ("volume 1 failed: Refused 28", "", False),
+    ("volume 1 failed: Refused 130", "", False),
+    ("volume 1 failed: OutOfMemory", "", False),
     ("volume 1 failed: ConnectionEnded", "rdump: 127.0.0.1:4711: Connection refused (os error 111)", False),
     ("", LOOK.format(6, 6), False),
+    ("", LOOK.format(12, 12), False),
     ("", LOOK.format(16, 16), False),
+    ("", "rdump: 127.0.0.1:4711: the look failed: out of memory", False),
+    ("", "rdump: 127.0.0.1:4711: the look failed: the connection ended", False),
     ("", "rdump: 127.0.0.1:4711: the look failed: Connection refused (os error 111)", False),
     ("", "this reel has: /home level 0 Fri Nov 20 00:00:00 2026, volume 1", False),
 )
@@ -279,7 +291,7 @@ class UnattendedDumps(ScriptCase):
         self.has_protect = "--protect" in run(self.folder, built("rdump"), "dump", "--help").output
 
     def dump(self, address: str, *more: str, **variables: str) -> Ended[str]:
-        words = ("--to", address, "--device", DEVICE, "--fs", "/usr", "--level", "0", "--payload", "payload", "--block", "1024")
+        words = ("--to", address, "--device", DEVICE, "--fs", "/usr", "--level", "0", "--date", str(DAY), "--payload", "payload", "--block", "1024")
         return run(self.folder, UNATTENDED, built("rdump"), "dump", *words, "--dumpdates", "dumpdates", *more, **variables)
 
     def test_what_no_wait_mends(self) -> None:
@@ -287,12 +299,26 @@ class UnattendedDumps(ScriptCase):
         opened = (b"A0\n", b"A1\n", b"A0\n", b"A1\n")
         # With --protect there is a look of its own before each attempt: an open, a rewind, a read, a rewind, spacing and a close.
         look = (b"A0\n", b"A1\n", b"A0\n", b"A1\n", b"E5\nempty\n", b"A0\n") if self.has_protect else ()
+        # A volume of one block, as the reel is then full, and the label of it on the next reel.
+        volume = (*opened, b"A1024\n", b"A1024\n", b"A0\n", b"A1\n", b"A1\n", b"A0\n")
+        counted = b"A1024\n" + label(1, 0)
+        look_at_counted = (b"A0\n", b"A1\n", counted, b"A0\n") if self.has_protect else ()
         # The look at a drive that is not there holds the attempt back, and no line of a volume is printed then.
         for title, replies, line in (
             ("no such drive", (b"E2\nno\n",), "" if look else "volume 1 failed: Refused 2\n"),
             ("an older server", (*look, *opened, b"A1024\n", b"E22\nno\n"), "volume 1 failed: Refused 22\n"),
+            ("a server that lets nobody open", (b"E13\nno\n",), "" if look else "volume 1 failed: Refused 13\n"),
+            ("a server that cannot rewind", (b"A0\n", b"E9\nno\n", b"A0\n"), "" if look else "volume 1 failed: Refused 9\n"),
+            ("a server that lets nobody write", (*look, *opened, b"E13\nno\n"), "volume 1 failed: Refused 13\n"),
+            ("a server that takes no writes", (*look, *opened, b"E9\nno\n"), "volume 1 failed: Refused 9\n"),
+            ("a server that writes less", (*look, *opened, b"A1023\n"), "volume 1 failed: ShortWrite\n"),
             ("no server of this protocol", (*look, b"X\n"), "volume 1 failed: Botched\n"),
             ("a reel that is too small", (*look, *opened, b"A0\n"), "volume 1 failed: ReelTooSmall\n"),
+            (
+                "a counted reel",
+                (*look, *volume, *look_at_counted, b"A0\n", b"A1\n", counted),
+                "volume 1: 1 blocks from 0\nvolume 2 failed: CountedReel 1\n",
+            ),
         ):
             for more in ((), ("--checkpoint", "kept")):
                 self.fails_at_once(f"{title} {more}", replies, line, *more)
