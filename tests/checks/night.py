@@ -1,6 +1,7 @@
 """Checks the scripts of etc/ that dump with nobody there, with the built programs.
 
-`unattended` runs stand-ins for a dump, which print and wait as it does, and dumps to servers of this file. `new-reels` runs in folders.
+`unattended` runs stand-ins for a dump, which print and wait as it does, and dumps to servers of this file. `new-reels` runs in folders, and
+`night` without the variables that a crontab sets.
 
 The recipe *A night* of docs/OPERATING.md runs as it stands there, on a machine of its own, and then the lines of its two crontabs, at the
 times that they name. No cron runs: this file reads them, and moves the clock, which is a `date` that comes first in PATH. What a line prints
@@ -35,7 +36,7 @@ from tests.lib.places import built
 from tests.lib.played_servers import Said
 from tests.lib.processes import state
 from tests.lib.recipes import all_recipes, script_of, with_those_before
-from tests.lib.unattended import NEW_REELS, UNATTENDED, Job, jobs_of, moved_clock, set_clock
+from tests.lib.unattended import NEW_REELS, NIGHT, UNATTENDED, Job, jobs_of, moved_clock, set_clock
 from tests.lib.waiting import GUARD_SECONDS, soon
 from tests.lib.wire import DEVICE
 
@@ -342,6 +343,27 @@ class UnattendedDumps(ScriptCase):
         failed, why = ("", "the look failed: timed out") if self.has_protect else ("volume 1 failed: ConnectionEnded\n", "timed out")
         wanted = Ended(f"{failed}retry?\n" * 2 + "dump abandoned\n", f"rdump: {address}: {why}\n" * 2, ABNORMAL)
         self.same("a silent server", got, wanted)
+
+
+class NightByHand(ScriptCase):
+    """The script of a night, as a person starts it without a crontab."""
+
+    def test_variables_that_are_missing(self) -> None:
+        """It says which variables are missing, before it packs anything."""
+        tree, kept = self.folder / "tree", self.folder / "kept"
+        tree.mkdir()
+        kept.mkdir()
+        wanted = Ended("", "night: the variables TO (the server's address) and DEVICE (its drive) must be set\n", 1)
+        for name, variables in (
+            ("neither", {"TO": "", "DEVICE": ""}),
+            ("no TO", {"TO": "", "DEVICE": DEVICE}),
+            ("no DEVICE", {"TO": "127.0.0.1:4711", "DEVICE": ""}),
+        ):
+            self.same(f"{name}: it says so", run(self.folder, NIGHT, "0", "/usr", "tree", "kept", **variables), wanted)
+            self.same(f"{name}: it makes nothing", [*kept.iterdir()], [])
+        environment = {name: value for name, value in os.environ.items() if name not in ("TO", "DEVICE")}
+        ran = subprocess.run((NIGHT, "0", "/usr", "tree", "kept"), cwd=self.folder, env=environment, capture_output=True, text=True, check=False)
+        self.same("no variables at all: it says so", (ran.stdout, ran.stderr, ran.returncode), tuple(wanted))
 
 
 class NewReels(ScriptCase):

@@ -11,6 +11,7 @@ from typing import NamedTuple
 from tests.lib.places import TOP
 
 UNATTENDED = str(TOP / "etc/unattended")
+NIGHT = str(TOP / "etc/night")
 NEW_REELS = str(TOP / "etc/new-reels")
 
 
