@@ -32,7 +32,7 @@ from tests.lib.dumping import DAY, PAYLOAD, label
 from tests.lib.ended import ABNORMAL, DONE, Ended
 from tests.lib.given import given
 from tests.lib.inside import is_inside, run_inside
-from tests.lib.places import built
+from tests.lib.places import TOP, built
 from tests.lib.played_servers import Said
 from tests.lib.processes import state
 from tests.lib.recipes import all_recipes, script_of, with_those_before
@@ -137,6 +137,11 @@ REASONS = (
 )
 
 
+def failure_of(line: str) -> str:
+    """The failure that a line names, without the number of a counted volume."""
+    return re.sub(r"^(CountedReel) \w+$", r"\1", line.partition(" failed: ")[2])
+
+
 class Unattended(ScriptCase):
     """The script that answers, with stand-ins for a dump."""
 
@@ -229,6 +234,19 @@ class Unattended(ScriptCase):
                 got = run(self.folder, UNATTENDED, asks, "dump", *word, SAID=said, FAILED=failed, PAUSE="0", TIMES="2")
                 gave_up = got.told.removeprefix(told * times).startswith("unattended: it gave up, and the file of --checkpoint stays")
                 self.same(f"{failed or said}, {word}", (got.output, got.status, gave_up), (lines * times, ABNORMAL, True), got)
+
+    def test_documents(self) -> None:
+        """The documents agree with the script about the failures that no wait mends, and each failure of docs/MESSAGES.md is tried above."""
+        tried = {failure_of(failed): is_hopeless for failed, _, is_hopeless in REASONS if failed}
+        rows = re.findall(r"(?m)^\| `(volume N failed: [^`]+)` \|.*\| ([^|]*) \|$", TOP.joinpath("docs/MESSAGES.md").read_text())
+        answers = {failure_of(message): to_do for message, to_do in rows}
+        self.holds("docs/MESSAGES.md has failures", len(answers) > 10, rows)
+        self.same("each failure of docs/MESSAGES.md is tried", [it for it in answers if it not in tried], [])
+        refused = [it for it, to_do in answers.items() if "answer no" in to_do]
+        self.same("what an operator answers with no is given up", [it for it in refused if not tried.get(it)], [])
+        part = TOP.joinpath("docs/OPERATING.md").read_text().partition("**If waiting cannot help")[2].partition("counts in the same way")[0]
+        listed = {name for line in re.findall(r"(?m)^- (.*?):", part) for name in re.findall("`([^`]+)`", line)}
+        self.same("docs/OPERATING.md lists what is given up", listed, {it for it, is_hopeless in tried.items() if is_hopeless})
 
     def test_signals(self) -> None:
         """A signal at any time ends the script and its dump, and nothing stays."""
