@@ -1,6 +1,7 @@
 """Checks the scripts of etc/ that dump with nobody there, with the built programs.
 
-`unattended` runs stand-ins for a dump, which print and wait as it does, and dumps to servers of this file. `new-reels` runs in folders.
+`unattended` runs stand-ins for a dump, which print and wait as it does, and dumps to servers of this file. `new-reels` runs in folders, and
+`night` in a folder beside a server.
 
 The recipe *A night* of docs/OPERATING.md runs as it stands there, on a machine of its own, and then the lines of its two crontabs, at the
 times that they name. No cron runs: this file reads them, and moves the clock, which is a `date` that comes first in PATH. What a line prints
@@ -26,8 +27,9 @@ from typing import Callable, NamedTuple
 
 from tests.lib import machines
 from tests.lib.case import Case, random_seed
-from tests.lib.connections import wait_for
-from tests.lib.dumping import PAYLOAD
+from tests.lib.checkpoints import small_disk
+from tests.lib.connections import NOWHERE, text_of, wait_for
+from tests.lib.dumping import IN_LITTLE_ROOM, PAYLOAD
 from tests.lib.ended import ABNORMAL, DONE, Ended
 from tests.lib.given import given
 from tests.lib.inside import is_inside, run_inside
@@ -35,7 +37,9 @@ from tests.lib.places import built
 from tests.lib.played_servers import Said
 from tests.lib.processes import state
 from tests.lib.recipes import all_recipes, script_of, with_those_before
-from tests.lib.unattended import NEW_REELS, UNATTENDED, Job, jobs_of, moved_clock, set_clock
+from tests.lib.servers import serving
+from tests.lib.traced import traced
+from tests.lib.unattended import NEW_REELS, NIGHT, UNATTENDED, Job, jobs_of, moved_clock, set_clock
 from tests.lib.waiting import GUARD_SECONDS, soon
 from tests.lib.wire import DEVICE
 
@@ -381,6 +385,91 @@ class NewReels(ScriptCase):
         os.chown(self.folder / "stack", 65534, 65534)
         got = self.make("stack", "bin", "1")
         self.same("the stack of another user", (got.status, "another user's" in got.told), (1, True), got)
+
+
+# Of so many bytes a payload has more than one block.
+LONG = 300000
+
+
+class NightScript(ScriptCase):
+    """The script that packs a tree and dumps it: what it leaves in its folder."""
+
+    def setUp(self) -> None:
+        super().setUp()
+        if not machines.is_there("flock") or not machines.is_there("tar"):
+            self.skipTest("flock and tar cannot be used on this machine")
+        self.programs, self.tree, self.place = (self.folder / it for it in ("programs", "tree", "place"))
+        moved_clock(self.programs, self.folder / "now", "2026-11-29 02:00")
+        (self.programs / "rdump").symlink_to(built("rdump"))
+        (self.programs / "unattended").symlink_to(UNATTENDED)
+        self.tree.mkdir()
+        (self.tree / "file").write_bytes(random.Random(5).randbytes(LONG))
+
+    def dumps(self, to: str, level: int = 0, before: tuple[str, ...] = ()) -> Ended[str]:
+        """What comes of the script at a level. It answers no question."""
+        words = (*before, NIGHT, str(level), "/usr", str(self.tree), str(self.place))
+        return run(self.folder, *words, TO=to, DEVICE=DEVICE, PATH=f"{self.programs}:{os.environ['PATH']}", TIMES="0")
+
+    def left(self) -> list[str]:
+        """What a run left that is large, or that the next one goes on from."""
+        return sorted(it.name for it in self.place.iterdir() if it.name.startswith(("payload", "checkpoint")))
+
+    def test_full_disk(self) -> None:
+        """tar finds no room for the payload: nothing of it stays, as far as tar came."""
+        with small_disk(self.place) as is_small:
+            got = self.dumps(NOWHERE, before=() if is_small else IN_LITTLE_ROOM)
+            self.same("no room for the payload", (got.status, "nothing is dumped" in got.told, self.left()), (1, True, []), got)
+
+    def test_what_an_earlier_run_left(self) -> None:
+        """A run that was killed left files that no dump needs. They go before tar needs the room."""
+        self.place.mkdir()
+        for it in ("payload", "payload.tar"):
+            (self.place / it).write_bytes(bytes(1000))
+        (self.programs / "tar").write_text(f'#!/bin/sh\nls {self.place}\nexit 2\n')
+        (self.programs / "tar").chmod(0o755)
+        got = self.dumps(NOWHERE)
+        self.same("while tar packs", (got.status, "payload" in got.output, self.left()), (1, False, []), got)
+
+    def test_payload_is_on_the_disk(self) -> None:
+        """Before the dump has a checkpoint the payload is synced, and so is the folder that has its name."""
+        before = traced(self, "fsync,rename,renameat,renameat2,openat")
+        if not before:
+            return
+        self.place.mkdir()
+        got = self.dumps(NOWHERE, before=before)
+        self.same("the dump has a checkpoint", (got.status, self.left()), (ABNORMAL, ["checkpoint", "payload"]), got)
+        lines = (self.folder / "calls").read_text(errors="replace").splitlines()
+        lines = lines[: next(number for number, it in enumerate(lines) if "checkpoint.new" in it)]
+        place = re.escape(str(self.place))
+        for title, pattern in (
+            ("the payload is synced", rf"fsync\(\d+<{place}/payload(\.tar)?>\) += 0"),
+            ("it gets its name", r'rename\w*\(.*"payload\.tar", .*"payload".*\) += 0'),
+            ("the folder is synced", rf"fsync\(\d+<{place}>\) += 0"),
+        ):
+            at = next((number for number, it in enumerate(lines) if re.search(pattern, it)), None)
+            self.holds(f"before the checkpoint: {title}, after all before it", at is not None, lines[-20:])
+            lines = lines[(at or 0) + 1 :]
+
+    def test_another_payload(self) -> None:
+        """The payload of an unfinished dump has another length: the message names it, and what to do, and that does it."""
+        self.place.mkdir()
+        self.same("the dump is not finished", (self.dumps(NOWHERE).status, self.left()), (ABNORMAL, ["checkpoint", "payload"]))
+        payload, checkpoint = self.place / "payload", self.place / "checkpoint"
+        rows: tuple[tuple[str, str, Callable[[], object]], ...] = (
+            ("shorter", "1", lambda: os.truncate(payload, 1000)),
+            ("missing", "no", payload.unlink),
+        )
+        with serving() as server:
+            for title, blocks, changes in rows:
+                changes()
+                got = self.dumps(text_of(server.address))
+                told = {it: it in got.told for it in (f"{payload} has {blocks} blocks", "has 2", f"remove {checkpoint}")}
+                self.same(f"{title}: the message", (got.status, told), (1, dict.fromkeys(told, True)), got)
+                self.same(f"{title}: nothing is dumped", ([*server.bin.iterdir()], checkpoint.exists()), ([], True))
+            checkpoint.unlink()
+            server.reel("r1")
+            got = self.dumps(text_of(server.address))
+            self.same("the checkpoint is removed", (got.status, "dump complete" in got.output, self.left()), (DONE, True, []), got)
 
 
 # The nights. All below runs on a machine of its own.
