@@ -13,6 +13,7 @@ from tests.lib.places import TOP
 UNATTENDED = str(TOP / "etc/unattended")
 NEW_REELS = str(TOP / "etc/new-reels")
 NIGHT = str(TOP / "etc/night")
+TO_SHELF = str(TOP / "etc/to-shelf")
 
 
 def moved_clock(folder: Path, now: Path, when: str) -> None:
