@@ -1,7 +1,7 @@
 """Checks the scripts of etc/ that dump with nobody there, with the built programs.
 
 `unattended` runs stand-ins for a dump, which print and wait as it does, and dumps to servers of this file. `new-reels` runs in folders, and
-`night` in a folder beside a server.
+`night` in a folder beside a server. tests/checks/shelf.py has what `to-shelf` does.
 
 The recipe *A night* of docs/OPERATING.md runs as it stands there, on a machine of its own, and then the lines of its two crontabs, at the
 times that they name. No cron runs: this file reads them, and moves the clock, which is a `date` that comes first in PATH. What a line prints
@@ -471,11 +471,42 @@ class NightScript(ScriptCase):
             got = self.dumps(text_of(server.address))
             self.same("the checkpoint is removed", (got.status, "dump complete" in got.output, self.left()), (DONE, True, []), got)
 
+    def test_numbers_of_blocks(self) -> None:
+        """After each dump the folder has the number of blocks of each entry, and no others."""
+        self.place.mkdir()
+        with serving() as server:
+            for day, level in ((29, 0), (30, 1), (30, 2)):
+                server.reel(f"{day} {level}")
+                self.numbers(f"a dump of level {level}", f"2026-11-{day} 0{level + 2}:00", text_of(server.address), server.bin, level)
+            server.reel("another")
+            (self.tree / "file").write_bytes(bytes(2 * LONG))
+            self.numbers("another of level 0", "2026-12-06 02:00", text_of(server.address), server.bin, 0)
+            set_clock(self.folder / "now", "2026-12-07 02:00")
+            self.same("one that is not finished", self.dumps(NOWHERE, 1).status, ABNORMAL)
+            self.same("it is in no file", "2026-12-07" in self.entries(server.bin), False)
+            for it in ("going on", "after it"):
+                server.reel(it)
+            self.numbers("it goes on, before one of level 2", "2026-12-08 02:00", text_of(server.address), server.bin, 2)
+
+    def numbers(self, title: str, when: str, to: str, reels: Path, level: int) -> None:
+        """Dumps at a time. The numbers of blocks are those at which the reels of the entries end."""
+        set_clock(self.folder / "now", when)
+        got = self.dumps(to, level)
+        self.same(title, (got.status, self.left()), (DONE, []), got)
+        found = re.findall(r"^(.* level \d date \d+): volumes 1 to \d+, ends at block (\d+)$", self.entries(reels), re.M)
+        wanted = sorted(f"{dump}: {end} blocks" for dump, end in found)
+        self.same(f"{title}: the numbers", sorted((self.place / "blocks").read_text().splitlines()), wanted, got)
+        self.holds(f"{title}: each entry has one", len(found) == len((self.place / "dumpdates").read_text().splitlines()), found)
+
+    def entries(self, reels: Path) -> str:
+        return run(self.folder, built("rdump"), "ls", str(reels), "--dumpdates", str(self.place / "dumpdates")).output
+
 
 # The nights. All below runs on a machine of its own.
 
 NOW = Path("/mnt/now")
 STACK, BIN, SHELF, CLIENT = Path("/srv/tape/st0"), Path("/srv/tape/bin"), Path("/srv/tape/shelf"), Path("/var/lib/night")
+TAKEN = Path("/srv/tape/clients")
 TABLES = (Path("/etc/cron.d/rmtd"), Path("/etc/cron.d/night"))
 # Where the server listens, and where the client's tunnel to it begins.
 LISTENER, TUNNEL = "/run/rmtd/socket", "/run/rdump/socket"
@@ -583,6 +614,11 @@ def stack() -> list[str]:
 
 def shelf() -> dict[str, list[str]]:
     return {it.name: sorted(reel.name for reel in it.iterdir()) for it in sorted(SHELF.iterdir())}
+
+
+def held(folder: Path) -> dict[str, bytes]:
+    """The files of a folder."""
+    return {it.name: it.read_bytes() for it in sorted(folder.iterdir())}
 
 
 def dumpdates() -> str:
@@ -699,7 +735,8 @@ class Nights(Case):
         left = [it for it in ("payload", "checkpoint") if (CLIENT / it).exists()]
         self.same("night 1: no payload stays", left, [])
         self.same("night 1: it is entered", dumpdates(), "/usr                             0 Sun Nov 29 02:00:00 2026\n")
-        self.same("night 1: the server has the entries", Path("/srv/tape/clients/usr").read_text(), dumpdates())
+        self.same("night 1: the server has the entries", (TAKEN / "usr").read_text(), dumpdates())
+        self.same("night 1: the server has the numbers of blocks", (TAKEN / "usr.blocks").read_text(), (CLIENT / "blocks").read_text())
         self.same("morning 1: no mail", cron.run("2026-11-29 09:00"), Mail("", DONE))
         self.same("morning 1: the shelf", (shelf(), list(BIN.iterdir())), ({"2026-11-29": ["2026-11-29-1"]}, []))
         self.same("morning 1: a reel may only be read", (SHELF / "2026-11-29/2026-11-29-1").stat().st_mode & 0o777, 0o400)
@@ -765,14 +802,13 @@ class Nights(Case):
         self.same("the whole first week goes", [*shelf()], ["2027-02-07", "2027-02-08"], mail)
         got = rdump("ls", *(str(SHELF / it) for it in shelf()), "--dumpdates", str(CLIENT / "dumpdates"))
         self.same("each entry has its volumes", got.status, DONE, got)
-        # Entries that lack a volume: nothing goes.
-        for it in sorted(SHELF.rglob("2*-*-*-*")):
-            if it.parent.name == "2027-02-08":
-                it.unlink()
-        cron.run("2027-06-01 01:00")
+        # The reel of level 0 is gone: nothing goes, though a dump comes in the place of the old level 1.
+        empty(SHELF / "2027-02-07")
+        for when in ("2027-06-01 01:00", "2027-06-01 02:00"):
+            cron.run(when)
         mail = cron.run("2027-06-01 09:00")
-        found = ("nothing is removed" in mail.text, "2027-02-07" in shelf())
-        self.same("nothing goes where a volume is missing", found, (True, True), mail, shelf())
+        found = ("no volume" in mail.text, "no dump came" in mail.text, "nothing is removed" in mail.text, "2027-02-08" in shelf())
+        self.same("nothing goes where a volume is missing", found, (True, False, True, True), mail, shelf())
 
     def restored(self, tree: Path) -> None:
         """The tree that was dumped comes back from the reels of level 0 and those of the last level 1."""
@@ -798,6 +834,7 @@ class Nights(Case):
     def keys(self) -> None:
         port = ssh("-W", "127.0.0.1:22", "rmtd@tapehost")
         self.same("-W to a port", (port.status, "prohibited" in port.told), (255, True), port)
+        self.takes()
         self.forwards()
         stop("rmtd")
         os.unlink(LISTENER)
@@ -810,6 +847,32 @@ class Nights(Case):
             self.same(f"-R of {title}", (status, b"failed" in told), (255, True), told)
         self.same("no socket in the stack", Path("/srv/tape/st0/socket").exists(), False)
         self.same("no socket of the listener", Path(LISTENER).exists(), False)
+
+    def takes(self) -> None:
+        """The command of the key takes entries, and the numbers of blocks after them. What is anything else changes nothing."""
+        entry = b"/usr                             0 Tue Feb 29 00:00:00 2000\n"
+        numbers = b"/usr level 0 date 951782400: 8 blocks\n/usr level 1 date 951868800: 1 blocks\n"
+        for title, sent, taken in (
+            ("entries and numbers", entry + numbers, (entry, numbers)),
+            ("entries alone", entry, (entry, b"")),
+            ("an entry, and numbers", entry * 2 + numbers, (entry * 2, numbers)),
+            ("nothing", b"", None),
+            ("numbers alone", numbers, None),
+            ("a bad line", entry + b"hello\n", None),
+            ("a part of a number's line", entry + numbers[:-3], None),
+            ("a bad line among numbers", entry + b"hello\n" + numbers, None),
+        ):
+            before = held(TAKEN)
+            got = subprocess.run(
+                ("ssh", "-o", "BatchMode=yes", "-T", "rmtd@tapehost"),
+                input=sent,
+                capture_output=True,
+                env={**os.environ, "HOME": machines.HOME},
+                timeout=GUARD_SECONDS,
+                check=False,
+            )
+            wanted = {"usr": taken[0], "usr.blocks": taken[1]} if taken else before
+            self.same(f"{title}: what is taken", (got.returncode == 0, held(TAKEN)), (taken is not None, wanted), got)
 
     def forwards(self) -> None:
         """A way to the listener is had, and one to another socket is not."""

@@ -1,7 +1,8 @@
 """Checks `etc/to-shelf` with the built `rdump`: which reels it moves to the shelf, which folders it removes from it, and what it prints.
 
-The reels are record files that this file makes, and the entries are those of a client. The clock is a `date` that comes first in PATH. Another
-disk is one of memory, which root mounts for the shelf, and a run that is killed while it copies is killed by a `cp` that comes first in PATH.
+The reels are record files that this file makes, and the entries are those of a client. The clock is a `date` that comes first in PATH. A disk
+that is full is a small one of memory, which root mounts for the shelf, and a run that is killed while it copies is killed by a `cp` that comes
+first in PATH.
 """
 
 from __future__ import annotations
@@ -12,7 +13,7 @@ import tempfile
 import time
 from calendar import timegm
 from pathlib import Path
-from typing import NamedTuple
+from typing import Callable, NamedTuple
 
 from tests.checks.night import Mail
 from tests.lib.case import Case
@@ -65,6 +66,10 @@ class Dump(NamedTuple):
         """Its line of a dumpdates file."""
         return time.strftime(f"{self.name:<32} {self.level} %a %b %e %H:%M:%S %Y\n", time.gmtime(seconds_of(self.when)))
 
+    def number(self) -> str:
+        """Its line of the file with the numbers of blocks."""
+        return f"{self.name} level {self.level} date {seconds_of(self.when)}: {self.blocks} blocks\n"
+
 
 class ShelfCase(Case):
     """Tests of the script, with a bin, a shelf and a client's files that are empty at the start of each test."""
@@ -89,8 +94,9 @@ class ShelfCase(Case):
                 (self.bin / name).write_bytes(data)
 
     def entered(self, *dumps: Dump) -> None:
-        """The client's file comes, with the entries of these dumps and no others."""
+        """The client's files come, with the entries of these dumps and no others."""
         (self.clients / "usr").write_text("".join(it.entry() for it in dumps))
+        (self.clients / "usr.blocks").write_text("".join(it.number() for it in dumps))
 
     def run_at(self, when: str, days: int = 60) -> Mail:
         """Runs the script at a time, as cron does. Answers what it prints, and its status."""
@@ -118,9 +124,15 @@ class ShelfCase(Case):
         """The names in each folder of the shelf."""
         return {it.name: sorted(reel.name for reel in it.iterdir()) for it in sorted(self.shelf.iterdir()) if it.is_dir()}
 
+    def stays(self, title: str, mail: Mail, *facts: str) -> None:
+        """The old dump's folder is as it was, and the mail says why, with these facts."""
+        self.same(f"{title}: the old dump stays", self.held().get(folder_of(OLD)), [*Dump(OLD).reels()], mail)
+        told = {it: it in mail.text for it in ("nothing is removed", *facts)}
+        self.same(f"{title}: the mail", (mail.status, told), (1, dict.fromkeys(told, True)), mail.text)
+
 
 class WhatIsRemoved(ShelfCase):
-    """An old dump stays as long as it is needed."""
+    """An old dump stays until the one in its place is whole."""
 
     def test_whole(self) -> None:
         """The old dump goes, once it is old enough, where all is well. What a needed dump builds on stays."""
@@ -157,6 +169,118 @@ class WhatIsRemoved(ShelfCase):
         self.same("a day later: no mail", self.run_at("2027-01-02 02:00"), GOOD)
         self.same("a day later: it goes", folder_of(OLD) in self.held(), False)
 
+    def test_last_volume_is_missing(self) -> None:
+        """Somebody took the last reel, or the last two, before they came to the shelf. The reels alone do not show it."""
+        new = Dump(NEW, 6)
+        self.old_and_new(Dump(OLD), new)
+        names = [*new.reels()]
+        (self.bin / names[2]).rename(self.folder / names[2])
+        mail = self.run_at(NEW)
+        self.stays("the last volume is missing", mail, f"date {seconds_of(NEW)}: volumes 1 to 2, ends at block 4", "6 blocks")
+        (self.shelf / folder_of(NEW) / names[1]).unlink()
+        self.came(Dump("2027-02-08 02:00", name="/home"))
+        mail = self.run_at("2027-02-08 02:00")
+        self.stays("the last two are missing", mail, f"date {seconds_of(NEW)}: volumes 1 to 1, ends at block 2", "6 blocks")
+        (self.bin / names[1]).write_bytes(new.reels()[names[1]])
+        (self.folder / names[2]).rename(self.bin / names[2])
+        self.same("they come: no mail", self.run_at("2027-02-09 02:00"), GOOD)
+        self.same("they come: the old dump goes", folder_of(OLD) in self.held(), False)
+
+    def test_first_volumes_are_missing(self) -> None:
+        new = Dump(NEW, 6)
+        self.old_and_new(Dump(OLD), new)
+        names = [*new.reels()]
+        (self.bin / names[1]).unlink()
+        self.stays("a volume in the middle is missing", self.run_at(NEW), "volume 2 is missing")
+        for it in names:
+            (self.shelf / folder_of(NEW) / it).unlink(missing_ok=True)
+        self.came(Dump("2027-02-08 02:00", name="/home"))
+        self.stays("no volume is there", self.run_at("2027-02-08 02:00"), "no volume")
+
+    def test_more_blocks_than_the_dump_has(self) -> None:
+        """The reels are not those of the dump that was entered."""
+        new = Dump(NEW)
+        self.old_and_new(Dump(OLD), new)
+        (self.clients / "usr.blocks").write_text(new._replace(blocks=3).number())
+        self.stays("a block too many", self.run_at(NEW), "ends at block 4", "3 blocks")
+
+    def test_damaged(self) -> None:
+        """The last reel has no mark, whether it is damaged in the bin or on the shelf."""
+        for title, damages in (("no mark", no_mark), ("cut", cut), ("empty", emptied), ("no label", no_label), ("more after the mark", more)):
+            for place in ("bin", "shelf"):
+                self.begin()
+                self.damaged(f"{title}, in the {place}", damages, place == "shelf")
+
+    def damaged(self, title: str, damages: Callable[[bytes], bytes], is_shelved: bool) -> None:
+        new = Dump(NEW, 6)
+        self.old_and_new(Dump(OLD), new)
+        last = [*new.reels()][-1]
+        if is_shelved:
+            # The first run is too early to remove anything.
+            self.same(f"{title}: no mail before", self.run_at(NEW, 365), GOOD)
+            damaged = self.shelf / folder_of(NEW) / last
+            self.came(Dump("2027-02-08 02:00", name="/home"))
+        else:
+            damaged = self.bin / last
+        damaged.chmod(0o600)
+        damaged.write_bytes(damages(damaged.read_bytes()))
+        mail = self.run_at("2027-02-08 02:00")
+        self.stays(title, mail, f"/{last}: ")
+
+    def test_damaged_reel_of_another_dump(self) -> None:
+        """Nothing tells which dump it was of."""
+        new = Dump(NEW)
+        self.old_and_new(Dump(OLD), new)
+        (self.bin / "other").write_bytes(b"")
+        self.stays("an empty reel", self.run_at(NEW), "/other: 0 bytes: empty")
+        # The operator takes it away.
+        (self.shelf / folder_of(NEW) / "other").unlink()
+        self.came(Dump("2027-02-08 02:00", name="/home"))
+        self.same("it is taken away: no mail", self.run_at("2027-02-08 02:00"), GOOD)
+        self.same("it is taken away: the old dump goes", folder_of(OLD) in self.held(), False)
+
+    def test_number_of_blocks_is_not_known(self) -> None:
+        """A client that tells no numbers: nothing is known to be whole."""
+        new = Dump(NEW)
+        self.old_and_new(Dump(OLD), new)
+        (self.clients / "usr.blocks").unlink()
+        self.stays("no file", self.run_at(NEW), f"date {seconds_of(NEW)}: volumes 1 to 2, ends at block 4", "not known")
+        for title, text in (
+            ("an empty file", ""),
+            ("another date", Dump(OLD).number()),
+            ("another level", new._replace(level=1).number()),
+            ("a part of a line", new.number()[:-3]),
+            ("a name that begins so", new._replace(name="/usr2").number()),
+            ("another word", f"x{new.number()}"),
+        ):
+            (self.clients / "usr.blocks").write_text(text)
+            self.came(Dump("2027-02-08 02:00", name="/home"))
+            self.stays(title, self.run_at("2027-02-08 02:00"), "not known")
+            (self.shelf / "2027-02-08").rename(self.folder / title.replace(" ", "-"))
+        (self.clients / "usr.blocks").write_text(Dump(OLD).number() + new.number())
+        self.came(Dump("2027-02-09 02:00", name="/home"))
+        self.same("it comes, beside that of another: no mail", self.run_at("2027-02-09 02:00"), GOOD)
+        self.same("it comes: the old dump goes", folder_of(OLD) in self.held(), False)
+
+    def test_entries(self) -> None:
+        """Entries that cannot be read."""
+        self.old_and_new(Dump(OLD), Dump(NEW))
+        for title, text in (("a bad line", "hello\n"), ("no file", None)):
+            self.came(Dump("2027-02-08 02:00", name="/home"))
+            if text is None:
+                (self.clients / "usr").unlink()
+            else:
+                (self.clients / "usr").write_text(text)
+            self.stays(title, self.run_at(NEW), "entries")
+
+    def test_unreadable(self) -> None:
+        """A part of the shelf cannot be read."""
+        self.old_and_new(Dump(OLD), Dump(NEW))
+        self.same("no mail before", self.run_at(NEW, 365), GOOD)
+        self.came(Dump("2027-02-08 02:00", name="/home"))
+        (self.shelf / "2027-02-01").symlink_to(self.folder / "nowhere")
+        self.stays("a folder that is away", self.run_at("2027-02-08 02:00"), "2027-02-01")
+
     def test_another_hidden_file(self) -> None:
         """A file that no run left stays, in a folder that stays too, and the mail says so."""
         old = Dump(OLD)
@@ -167,6 +291,26 @@ class WhatIsRemoved(ShelfCase):
         mail = self.run_at(NEW)
         self.same("hidden files: they stay", self.held().get(folder_of(OLD)), sorted([*others, *old.reels()]), mail)
         self.same("hidden files: the mail names the folder", (mail.status, str(self.shelf / folder_of(OLD)) in mail.text), (1, True), mail)
+
+
+def no_mark(data: bytes) -> bytes:
+    return data[:-4]
+
+
+def cut(data: bytes) -> bytes:
+    return data[:1500]
+
+
+def emptied(_data: bytes) -> bytes:
+    return b""
+
+
+def no_label(data: bytes) -> bytes:
+    return data[:4] + b"?" + data[5:]
+
+
+def more(data: bytes) -> bytes:
+    return data + images([b"more", None])
 
 
 class OtherDisk(ShelfCase):
@@ -184,6 +328,22 @@ class OtherDisk(ShelfCase):
     def mounted(self, options: str) -> bool:
         words = ("mount", "-t", "tmpfs", "-o", options, "small", str(self.shelf))
         return subprocess.run(words, capture_output=True, check=False).returncode == 0
+
+    def test_full_disk(self) -> None:
+        """The last reel finds no room. The old dump stays, and so does the reel."""
+        new = Dump(NEW, 6)
+        self.old_and_new(Dump(OLD), new)
+        names = [*new.reels()]
+        mail = self.run_at(NEW)
+        self.stays("no room", mail, f"{names[2]}: it could not be copied, and stays")
+        left = ([it.name for it in self.bin.iterdir()], self.held()[folder_of(NEW)])
+        self.same("no room: the last reel stays in the bin", left, ([names[2]], names[:2]))
+        # The next morning it is the same, though no reel's copy failed before in that folder.
+        self.stays("no room the next day", self.run_at("2027-02-08 02:00"), "could not be copied")
+        self.same("no room the next day: no folder for nothing", [*self.held()], [folder_of(OLD), folder_of(NEW)])
+        self.holds("more room", self.mounted("remount,size=64k"))
+        self.same("more room: no mail", self.run_at("2027-02-09 02:00"), GOOD)
+        self.same("more room: the old dump goes", self.held(), {folder_of(NEW): names[:2], "2027-02-09": names[2:]})
 
     def test_killed_while_it_copies(self) -> None:
         """A part of a copy stays in the folder of that day. It goes, and so does the folder later."""
