@@ -415,7 +415,7 @@ class NightScript(ScriptCase):
         return sorted(it.name for it in self.place.iterdir() if it.name.startswith(("payload", "checkpoint")))
 
     def test_full_disk(self) -> None:
-        """tar finds no room for the payload: nothing of it stays, as far as tar came."""
+        """tar finds no room for the payload: what it packed is removed."""
         with small_disk(self.place) as is_small:
             got = self.dumps(NOWHERE, before=() if is_small else IN_LITTLE_ROOM)
             self.same("no room for the payload", (got.status, "nothing is dumped" in got.told, self.left()), (1, True, []), got)
