@@ -1,7 +1,7 @@
 """Checks the scripts of etc/ that dump with nobody there, with the built programs.
 
 `unattended` runs stand-ins for a dump, which print and wait as it does, and dumps to servers of this file. `new-reels` runs in folders, and
-`night` without the variables that a crontab sets.
+`night` in a folder beside a server, and without the variables that a crontab sets. tests/checks/shelf.py has what `to-shelf` does.
 
 The recipe *A night* of docs/OPERATING.md runs as it stands there, on a machine of its own, and then the lines of its two crontabs, at the
 times that they name. No cron runs: this file reads them, and moves the clock, which is a `date` that comes first in PATH. What a line prints
@@ -27,8 +27,9 @@ from typing import Callable, NamedTuple
 
 from tests.lib import machines
 from tests.lib.case import Case, random_seed
-from tests.lib.connections import wait_for
-from tests.lib.dumping import DAY, PAYLOAD, label
+from tests.lib.checkpoints import small_disk
+from tests.lib.connections import NOWHERE, text_of, wait_for
+from tests.lib.dumping import DAY, IN_LITTLE_ROOM, PAYLOAD, label
 from tests.lib.ended import ABNORMAL, DONE, Ended
 from tests.lib.given import given
 from tests.lib.inside import is_inside, run_inside
@@ -36,6 +37,8 @@ from tests.lib.places import TOP, built
 from tests.lib.played_servers import Said
 from tests.lib.processes import state
 from tests.lib.recipes import all_recipes, script_of, with_those_before
+from tests.lib.servers import serving
+from tests.lib.traced import traced
 from tests.lib.unattended import NEW_REELS, NIGHT, UNATTENDED, Job, jobs_of, moved_clock, set_clock
 from tests.lib.waiting import GUARD_SECONDS, soon
 from tests.lib.wire import DEVICE
@@ -449,10 +452,126 @@ class NewReels(ScriptCase):
         self.same("the stack of another user", (got.status, "another user's" in got.told), (1, True), got)
 
 
+# Of so many bytes a payload has more than one block.
+LONG = 300000
+
+
+class NightScript(ScriptCase):
+    """The script that packs a tree and dumps it: what it leaves in its folder."""
+
+    def setUp(self) -> None:
+        super().setUp()
+        if not machines.is_there("flock") or not machines.is_there("tar"):
+            self.skipTest("flock and tar cannot be used on this machine")
+        self.programs, self.tree, self.place = (self.folder / it for it in ("programs", "tree", "place"))
+        moved_clock(self.programs, self.folder / "now", "2026-11-29 02:00")
+        (self.programs / "rdump").symlink_to(built("rdump"))
+        (self.programs / "unattended").symlink_to(UNATTENDED)
+        self.tree.mkdir()
+        (self.tree / "file").write_bytes(random.Random(5).randbytes(LONG))
+
+    def dumps(self, to: str, level: int = 0, before: tuple[str, ...] = ()) -> Ended[str]:
+        """What comes of the script at a level. It answers no question."""
+        words = (*before, NIGHT, str(level), "/usr", str(self.tree), str(self.place))
+        return run(self.folder, *words, TO=to, DEVICE=DEVICE, PATH=f"{self.programs}:{os.environ['PATH']}", TIMES="0")
+
+    def left(self) -> list[str]:
+        """What a run left that is large, or that the next one goes on from."""
+        return sorted(it.name for it in self.place.iterdir() if it.name.startswith(("payload", "checkpoint")))
+
+    def test_full_disk(self) -> None:
+        """tar finds no room for the payload: what it packed is removed."""
+        with small_disk(self.place) as is_small:
+            got = self.dumps(NOWHERE, before=() if is_small else IN_LITTLE_ROOM)
+            self.same("no room for the payload", (got.status, "nothing is dumped" in got.told, self.left()), (1, True, []), got)
+
+    def test_what_an_earlier_run_left(self) -> None:
+        """A run that was killed left files that no dump needs. They go before tar needs the room."""
+        self.place.mkdir()
+        for it in ("payload", "payload.tar"):
+            (self.place / it).write_bytes(bytes(1000))
+        (self.programs / "tar").write_text(f'#!/bin/sh\nls {self.place}\nexit 2\n')
+        (self.programs / "tar").chmod(0o755)
+        got = self.dumps(NOWHERE)
+        self.same("while tar packs", (got.status, "payload" in got.output, self.left()), (1, False, []), got)
+
+    def test_payload_is_on_the_disk(self) -> None:
+        """Before the dump has a checkpoint the payload is synced, and so is the folder that has its name."""
+        before = traced(self, "fsync,rename,renameat,renameat2,openat")
+        if not before:
+            return
+        self.place.mkdir()
+        got = self.dumps(NOWHERE, before=before)
+        self.same("the dump has a checkpoint", (got.status, self.left()), (ABNORMAL, ["checkpoint", "payload"]), got)
+        lines = (self.folder / "calls").read_text(errors="replace").splitlines()
+        lines = lines[: next(number for number, it in enumerate(lines) if "checkpoint.new" in it)]
+        place = re.escape(str(self.place))
+        for title, pattern in (
+            ("the payload is synced", rf"fsync\(\d+<{place}/payload(\.tar)?>\) += 0"),
+            ("it gets its name", r'rename\w*\(.*"payload\.tar", .*"payload".*\) += 0'),
+            ("the folder is synced", rf"fsync\(\d+<{place}>\) += 0"),
+        ):
+            at = next((number for number, it in enumerate(lines) if re.search(pattern, it)), None)
+            self.holds(f"before the checkpoint: {title}, after all before it", at is not None, lines[-20:])
+            lines = lines[(at or 0) + 1 :]
+
+    def test_another_payload(self) -> None:
+        """The payload of an unfinished dump has another length: the message names it, and what to do, and that does it."""
+        self.place.mkdir()
+        self.same("the dump is not finished", (self.dumps(NOWHERE).status, self.left()), (ABNORMAL, ["checkpoint", "payload"]))
+        payload, checkpoint = self.place / "payload", self.place / "checkpoint"
+        rows: tuple[tuple[str, str, Callable[[], object]], ...] = (
+            ("shorter", "1", lambda: os.truncate(payload, 1000)),
+            ("missing", "no", payload.unlink),
+        )
+        with serving() as server:
+            for title, blocks, changes in rows:
+                changes()
+                got = self.dumps(text_of(server.address))
+                told = {it: it in got.told for it in (f"{payload} has {blocks} blocks", "has 2", f"remove {checkpoint}")}
+                self.same(f"{title}: the message", (got.status, told), (1, dict.fromkeys(told, True)), got)
+                self.same(f"{title}: nothing is dumped", ([*server.bin.iterdir()], checkpoint.exists()), ([], True))
+            checkpoint.unlink()
+            server.reel("r1")
+            got = self.dumps(text_of(server.address))
+            self.same("the checkpoint is removed", (got.status, "dump complete" in got.output, self.left()), (DONE, True, []), got)
+
+    def test_numbers_of_blocks(self) -> None:
+        """After each dump the folder has the number of blocks of each entry, and no others."""
+        self.place.mkdir()
+        with serving() as server:
+            for day, level in ((29, 0), (30, 1), (30, 2)):
+                server.reel(f"{day} {level}")
+                self.numbers(f"a dump of level {level}", f"2026-11-{day} 0{level + 2}:00", text_of(server.address), server.bin, level)
+            server.reel("another")
+            (self.tree / "file").write_bytes(bytes(2 * LONG))
+            self.numbers("another of level 0", "2026-12-06 02:00", text_of(server.address), server.bin, 0)
+            set_clock(self.folder / "now", "2026-12-07 02:00")
+            self.same("one that is not finished", self.dumps(NOWHERE, 1).status, ABNORMAL)
+            self.same("it is in no file", "2026-12-07" in self.entries(server.bin), False)
+            for it in ("going on", "after it"):
+                server.reel(it)
+            self.numbers("it goes on, before one of level 2", "2026-12-08 02:00", text_of(server.address), server.bin, 2)
+
+    def numbers(self, title: str, when: str, to: str, reels: Path, level: int) -> None:
+        """Dumps at a time. The numbers of blocks are those at which the reels of the entries end."""
+        set_clock(self.folder / "now", when)
+        got = self.dumps(to, level)
+        self.same(title, (got.status, self.left()), (DONE, []), got)
+        found = re.findall(r"^(.* level \d date \d+): volumes 1 to \d+, ends at block (\d+)$", self.entries(reels), re.M)
+        wanted = sorted(f"{dump}: {end} blocks" for dump, end in found)
+        self.same(f"{title}: the numbers", sorted((self.place / "blocks").read_text().splitlines()), wanted, got)
+        self.holds(f"{title}: each entry has one", len(found) == len((self.place / "dumpdates").read_text().splitlines()), found)
+
+    def entries(self, reels: Path) -> str:
+        return run(self.folder, built("rdump"), "ls", str(reels), "--dumpdates", str(self.place / "dumpdates")).output
+
+
 # The nights. All below runs on a machine of its own.
 
 NOW = Path("/mnt/now")
 STACK, BIN, SHELF, CLIENT = Path("/srv/tape/st0"), Path("/srv/tape/bin"), Path("/srv/tape/shelf"), Path("/var/lib/night")
+TAKEN = Path("/srv/tape/clients")
 TABLES = (Path("/etc/cron.d/rmtd"), Path("/etc/cron.d/night"))
 # Where the server listens, and where the client's tunnel to it begins.
 LISTENER, TUNNEL = "/run/rmtd/socket", "/run/rdump/socket"
@@ -560,6 +679,11 @@ def stack() -> list[str]:
 
 def shelf() -> dict[str, list[str]]:
     return {it.name: sorted(reel.name for reel in it.iterdir()) for it in sorted(SHELF.iterdir())}
+
+
+def held(folder: Path) -> dict[str, bytes]:
+    """The files of a folder."""
+    return {it.name: it.read_bytes() for it in sorted(folder.iterdir())}
 
 
 def dumpdates() -> str:
@@ -676,7 +800,8 @@ class Nights(Case):
         left = [it for it in ("payload", "checkpoint") if (CLIENT / it).exists()]
         self.same("night 1: no payload stays", left, [])
         self.same("night 1: it is entered", dumpdates(), "/usr                             0 Sun Nov 29 02:00:00 2026\n")
-        self.same("night 1: the server has the entries", Path("/srv/tape/clients/usr").read_text(), dumpdates())
+        self.same("night 1: the server has the entries", (TAKEN / "usr").read_text(), dumpdates())
+        self.same("night 1: the server has the numbers of blocks", (TAKEN / "usr.blocks").read_text(), (CLIENT / "blocks").read_text())
         self.same("morning 1: no mail", cron.run("2026-11-29 09:00"), Mail("", DONE))
         self.same("morning 1: the shelf", (shelf(), list(BIN.iterdir())), ({"2026-11-29": ["2026-11-29-1"]}, []))
         self.same("morning 1: a reel may only be read", (SHELF / "2026-11-29/2026-11-29-1").stat().st_mode & 0o777, 0o400)
@@ -742,14 +867,13 @@ class Nights(Case):
         self.same("the whole first week goes", [*shelf()], ["2027-02-07", "2027-02-08"], mail)
         got = rdump("ls", *(str(SHELF / it) for it in shelf()), "--dumpdates", str(CLIENT / "dumpdates"))
         self.same("each entry has its volumes", got.status, DONE, got)
-        # Entries that lack a volume: nothing goes.
-        for it in sorted(SHELF.rglob("2*-*-*-*")):
-            if it.parent.name == "2027-02-08":
-                it.unlink()
-        cron.run("2027-06-01 01:00")
+        # The reel of level 0 is gone: nothing goes, though a dump comes in the place of the old level 1.
+        empty(SHELF / "2027-02-07")
+        for when in ("2027-06-01 01:00", "2027-06-01 02:00"):
+            cron.run(when)
         mail = cron.run("2027-06-01 09:00")
-        found = ("nothing is removed" in mail.text, "2027-02-07" in shelf())
-        self.same("nothing goes where a volume is missing", found, (True, True), mail, shelf())
+        found = ("no volume" in mail.text, "no dump came" in mail.text, "nothing is removed" in mail.text, "2027-02-08" in shelf())
+        self.same("nothing goes where a volume is missing", found, (True, False, True, True), mail, shelf())
 
     def restored(self, tree: Path) -> None:
         """The tree that was dumped comes back from the reels of level 0 and those of the last level 1."""
@@ -775,6 +899,7 @@ class Nights(Case):
     def keys(self) -> None:
         port = ssh("-W", "127.0.0.1:22", "rmtd@tapehost")
         self.same("-W to a port", (port.status, "prohibited" in port.told), (255, True), port)
+        self.takes()
         self.forwards()
         stop("rmtd")
         os.unlink(LISTENER)
@@ -787,6 +912,32 @@ class Nights(Case):
             self.same(f"-R of {title}", (status, b"failed" in told), (255, True), told)
         self.same("no socket in the stack", Path("/srv/tape/st0/socket").exists(), False)
         self.same("no socket of the listener", Path(LISTENER).exists(), False)
+
+    def takes(self) -> None:
+        """The command of the key takes entries, and the numbers of blocks after them. What is anything else changes nothing."""
+        entry = b"/usr                             0 Tue Feb 29 00:00:00 2000\n"
+        numbers = b"/usr level 0 date 951782400: 8 blocks\n/usr level 1 date 951868800: 1 blocks\n"
+        for title, sent, taken in (
+            ("entries and numbers", entry + numbers, (entry, numbers)),
+            ("entries alone", entry, (entry, b"")),
+            ("an entry, and numbers", entry * 2 + numbers, (entry * 2, numbers)),
+            ("nothing", b"", None),
+            ("numbers alone", numbers, None),
+            ("a bad line", entry + b"hello\n", None),
+            ("a part of a number's line", entry + numbers[:-3], None),
+            ("a bad line among numbers", entry + b"hello\n" + numbers, None),
+        ):
+            before = held(TAKEN)
+            got = subprocess.run(
+                ("ssh", "-o", "BatchMode=yes", "-T", "rmtd@tapehost"),
+                input=sent,
+                capture_output=True,
+                env={**os.environ, "HOME": machines.HOME},
+                timeout=GUARD_SECONDS,
+                check=False,
+            )
+            wanted = {"usr": taken[0], "usr.blocks": taken[1]} if taken else before
+            self.same(f"{title}: what is taken", (got.returncode == 0, held(TAKEN)), (taken is not None, wanted), got)
 
     def forwards(self) -> None:
         """A way to the listener is had, and one to another socket is not."""
