@@ -105,8 +105,9 @@ impl LocalHolds {
 }
 
 impl Holds for LocalHolds {
-    // take: If the drive is free, a take makes the given seat the drive's holder. If the drive is
-    // not free, a take finds the holder's number. A take assigns no seat number.
+    // take: A take is one step of the given seat. If the drive is free, the take makes the given
+    // seat the drive's holder. If the drive is not free, the take finds the holder's number, and the
+    // holder stays. A take assigns no seat number.
     //
     // give: A give is one step of the given seat, and frees the drive. A give assigns no seat
     // number.
