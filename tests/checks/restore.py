@@ -59,6 +59,7 @@ UNPRINTED = "rdump: standard output could not be written\n"
 # The words that give the true length.
 LENGTH = ("--length", str(len(PAYLOAD)))
 WAYS = (("--place",), ("--all",))
+BLOCKS = VOLUMES[-1][1]
 
 OPEN, REWIND, READ, OFFLINE, CLOSE = b"O/dev/st0\n0\n", b"I5\n1\n", b"R262144\n", b"I6\n1\n", b"C\n"
 BACK, OVER = b"I4\n1\n", b"I1\n1\n"
@@ -67,6 +68,11 @@ BACK, OVER = b"I4\n1\n", b"I1\n1\n"
 def binned(*volumes: int) -> str:
     """What is told of these volumes, each of which is read and goes to the bin."""
     return "".join(counted(it) + BINNED for it in volumes)
+
+
+def missing(first: int, end: int) -> str:
+    """What is told of blocks that are missing, from the first one up to the end."""
+    return f"block {first} is missing\n" if first + 1 == end else f"blocks {first} to {end - 1} are missing\n" if first < end else ""
 
 
 def filled(size: int, volumes: tuple[int, ...], before: bytes = b"") -> bytes:
@@ -217,13 +223,37 @@ class Missing(RestoreCase):
         elif gap.start:
             tells, status = f"blocks 0 to {gap.start - 1} are missing\n", ABNORMAL
         files = named(*map(reel, gap.order))
-        end = max(VOLUMES[it - 1][1] for it in gap.order) * BLOCK
+        count = max(VOLUMES[it - 1][1] for it in gap.order)
+        end = count * BLOCK
         if end < len(PAYLOAD):
-            tells, status = tells + f"rdump: out: {end} bytes, fewer than {len(PAYLOAD)}\n", ABNORMAL
+            behind = missing(count, BLOCKS) if before else ""
+            tells, status = tells + behind + f"rdump: out: {end} bytes, fewer than {len(PAYLOAD)}\n", ABNORMAL
         with stacked(self.p, *files.values()) as site:
             self.told(name, site.read("--all", *LENGTH), texts(*gap.order), status, binned(*gap.order) + tells)
             site.reels(name, {}, files)
         self.file_holds(name, self.out, filled(end, gap.order, before or b"")[: len(PAYLOAD)])
+
+    def test_over_an_older_file(self) -> None:
+        """The file has its whole length already, as after an earlier restore. Its length does not show that the last volumes are missing."""
+        old = b"o" * len(PAYLOAD)
+        for order in ((1,), (2,), (1, 2), (2, 1), (3,), (1, 2, 3)):
+            for behind in ((), (b"",)):
+                name = f"only {order} over an older file, {len(behind)} behind"
+                self.put_out(old)
+                files = named(*map(reel, order), *behind)
+                first, end = min(VOLUMES[it - 1][0] for it in order), max(VOLUMES[it - 1][1] for it in order)
+                tells = binned(*order) + (NO_RECORD if behind else "") + (START.format(first) if first else "") + missing(end, BLOCKS)
+                with stacked(self.p, *files.values()) as site:
+                    self.told(name, site.read("--all", *LENGTH), texts(*order), DONE if end == BLOCKS else ABNORMAL, tells)
+                    site.reels(name, dict([*files.items()][len(order) :]), dict([*files.items()][: len(order)]))
+                self.file_holds(name, self.out, filled(len(PAYLOAD), order, old)[: len(PAYLOAD)])
+        self.put_out(old)
+        with stacked(self.p, reel(1)) as site:
+            self.told("without a length", site.read("--all"), texts(1), DONE, binned(1) + UNKNOWN)
+        self.put_out(old)
+        with stacked(self.p, reel(1)) as site:
+            self.told("with a shorter length", site.read("--all", "--length", "2048"), texts(1), DONE, binned(1))
+        self.file_holds("with a shorter length", self.out, PAYLOAD[:2048])
 
     def test_a_volume_of_no_blocks_that_begins_late(self) -> None:
         for first, blank, line in ((1, "block 0 is missing\n", START.format(1)), (7, "blocks 0 to 6 are missing\n", START.format(7))):

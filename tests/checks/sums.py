@@ -1245,6 +1245,20 @@ class Reads(SumsCase):
                 got = self.p.run("mt", "--to", site.address, "--device", DEVICE, "nop", "1")
                 self.same(f"{name}: the drive is free", got.status, DONE, got)
 
+    def test_the_sums_file_is_read_into(self) -> None:
+        """By its own name, and by links: nothing is read, and the file keeps its lines."""
+        text = text_for(REELS)
+        self.p.file(FILE, text)
+        self.p.folder.joinpath("to-sums").symlink_to(FILE)
+        os.link(self.p.folder / FILE, self.p.folder / "hard")
+        for out in (FILE, f"./{FILE}", "to-sums", "hard"):
+            for more in ((), ("--place",), ("--all",), ("--length", "2500")):
+                with restores.stacked(self.p, REELS[0]) as site:
+                    name = f"into {out} {more}"
+                    self.told(name, site.read(*SUMS, *more, out=out), "", FAILED, f"rdump: {out}: it is the sums file too: {FILE}\n")
+                    site.reels(name, restores.named(REELS[0]), {})
+                self.same(f"{name}: the lines", self.sums(), text)
+
     def test_no_mark(self) -> None:
         cut = REELS[1][:-4]
         for text in (text_for(REELS), b""):

@@ -79,6 +79,12 @@ impl<'a, R: Files<File = File>> OutFile<'a, R> {
         self.was_empty
     }
 
+    /// Whether this path names the file, directly or through links. False if the system does not
+    /// find out.
+    pub(crate) fn is_named(&self, path: &str) -> bool {
+        is_at(self.rt, path, &self.file).unwrap_or(false)
+    }
+
     /// Returns how many bytes the file has.
     pub(crate) fn len(&self) -> io::Result<u64> {
         Ok(self.file.metadata()?.len())

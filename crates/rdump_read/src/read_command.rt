@@ -10,6 +10,7 @@ use crate::stack::read_stack;
 use crate::sums::read_sums;
 use crate::volume::{ReadEnd, read_volume};
 use exit_status::ExitStatus;
+use printable::plain;
 use rdump_args::ReadLine;
 use rdump_system::{ClientSystem, report, report_failed};
 use std::io::Write;
@@ -18,9 +19,10 @@ use sum_lines::Sums;
 /// Reads a volume back into a file, as `rdump read` does, and prints the volume's label. `terminal`
 /// is standard error, if that is a terminal: it shows how far the read is.
 ///
-/// The sums file is read first, if one is given. Then the file is opened, and emptied once the
-/// label was read. A file that is created here and gets no label is removed. Standard error reports
-/// how many blocks were read, and whether the first record is not a label of `rdump`.
+/// The sums file is read first, if one is given. Then the file is opened, which must not be the
+/// sums file, and emptied once the label was read. A file that is created here and gets no label is
+/// removed. Standard error reports how many blocks were read, and whether the first record is not a
+/// label of `rdump`.
 ///
 /// With `place`:
 ///
@@ -50,8 +52,8 @@ use sum_lines::Sums;
 ///
 /// Returns the exit status: `Success` if everything was read and synced, and nothing is known to be
 /// missing. Returns `StartupError` if the sums file could not be read or is not valid, if the file
-/// could not be opened, or if `place` or a length
-/// requires a regular file and it is not one. Returns `Abnormal` otherwise.
+/// could not be opened or is the sums file, or if `place` or a length requires a regular file and it
+/// is not one. Returns `Abnormal` otherwise.
 pub fn run_read<R: ClientSystem, T: Write + Drop>(
     rt: &R,
     line: ReadLine<'_>,
@@ -64,9 +66,23 @@ pub fn run_read<R: ClientSystem, T: Write + Drop>(
         Err(status) => return status,
     };
     match OutFile::open(rt, rt.alloc(), &line) {
+        Ok(file) if is_sums(rt, &line, &file) => ExitStatus::StartupError,
         Ok(file) => read_into(rt, &line, file, sums, terminal),
         Err(error) => report(rt, line.out, error),
     }
+}
+
+/// Whether the file is also the sums file of `line`, which is printed.
+fn is_sums<R: ClientSystem>(rt: &R, line: &ReadLine<'_>, file: &OutFile<'_, R>) -> bool {
+    let Some(path) = line.sums else {
+        return false;
+    };
+    let is_one = file.is_named(path);
+    if is_one {
+        let (out, sums) = (plain(line.out), plain(path));
+        let _ = eprintln!(rt; "rdump: {out}: it is the sums file too: {sums}");
+    }
+    is_one
 }
 
 /// Reads what `line` asks for into this file, and returns the exit status.

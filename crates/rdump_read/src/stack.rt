@@ -141,9 +141,12 @@ fn count<R: ClientSystem>(rt: &R, read: VolumeRead, blocks_read: &mut BlocksRead
 }
 
 /// Prints which blocks are missing between those in `blocks_read`, which are in order, below block
-/// `below`. If the file was empty, the blocks before the first one are missing too. Otherwise
-/// another run may have read those, so only the number of the first block is printed. Returns
-/// whether any are missing.
+/// `below`. Returns whether any are missing.
+///
+/// If the file was empty, the blocks before the first one are missing too, and the file's length
+/// shows whether the last ones are. If it was not empty, its length shows nothing: older contents
+/// may reach the end. So the blocks after the last one count as missing too. Another run may have
+/// read the blocks before the first one, so only the number of the first one is printed.
 fn report_blocks_read<R: ClientSystem>(
     rt: &R,
     blocks_read: &[BlockRange],
@@ -154,10 +157,25 @@ fn report_blocks_read<R: ClientSystem>(
         Some(_) if was_empty => report_gaps(rt, blocks_read, 0, below),
         Some(range) => {
             report_first(rt, range.first);
-            report_gaps(rt, blocks_read, range.first, below)
+            let has_gap = report_gaps(rt, blocks_read, range.first, below);
+            report_end(rt, blocks_read, below) || has_gap
         }
         None => false,
     }
+}
+
+/// Prints which blocks are missing between the last one in `blocks_read` and block `below`, if that
+/// is the end of the dump and not `u64::MAX`. Returns whether any are missing.
+fn report_end<R: ClientSystem>(rt: &R, blocks_read: &[BlockRange], below: u64) -> bool {
+    let mut end = 0;
+    for range in blocks_read {
+        end = range.end.max(end);
+    }
+    let is_short = end < below && below < u64::MAX;
+    if is_short {
+        report_gap(rt, end, below - 1);
+    }
+    is_short
 }
 
 /// Prints which block is the first one that was read, if that is not the first one of the dump.
