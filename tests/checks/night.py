@@ -21,6 +21,7 @@ import socket
 import subprocess
 import tempfile
 import time
+from calendar import timegm
 from contextlib import suppress
 from pathlib import Path
 from typing import Callable, NamedTuple
@@ -515,6 +516,21 @@ class NightScript(ScriptCase):
             self.holds(f"before the checkpoint: {title}, after all before it", at is not None, lines[-20:])
             lines = lines[(at or 0) + 1 :]
 
+    def test_number_before_the_dump(self) -> None:
+        """It is written before the dump begins: the dump may be entered although this script was killed. That of an earlier dump goes afterwards."""
+        self.place.mkdir()
+        earlier, other = (f"/usr level {level} date 1: 7 blocks\n" for level in (0, 1))
+        (self.place / "blocks").write_text(earlier + other)
+        number = f"/usr level 0 date {timegm(time.strptime('2026-11-29 02:00', '%Y-%m-%d %H:%M'))}: 2 blocks\n"
+        self.same("no server: the dump is not finished", self.dumps(NOWHERE).status, ABNORMAL)
+        self.same("no server: the number", (self.place / "blocks").read_text(), earlier + other + number)
+        with serving() as server:
+            server.reel("r1")
+            (self.programs / "tar").write_text("#!/bin/sh\nexit 2\n")
+            (self.programs / "tar").chmod(0o755)
+            got = self.dumps(text_of(server.address))
+            self.same("it goes on: the number", (self.place / "blocks").read_text(), other + number, got)
+
     def test_another_payload(self) -> None:
         """The payload of an unfinished dump has another length: the message names it, and what to do, and that does it."""
         self.place.mkdir()
@@ -919,8 +935,10 @@ class Nights(Case):
         numbers = b"/usr level 0 date 951782400: 8 blocks\n/usr level 1 date 951868800: 1 blocks\n"
         for title, sent, taken in (
             ("entries and numbers", entry + numbers, (entry, numbers)),
-            ("entries alone", entry, (entry, b"")),
+            ("entries alone: the numbers stay", entry, (entry, numbers)),
             ("an entry, and numbers", entry * 2 + numbers, (entry * 2, numbers)),
+            ("a zero byte after them", entry + numbers + b"\0", None),
+            ("zero bytes", bytes(1000), None),
             ("nothing", b"", None),
             ("numbers alone", numbers, None),
             ("a bad line", entry + b"hello\n", None),

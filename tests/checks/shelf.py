@@ -197,6 +197,26 @@ class WhatIsRemoved(ShelfCase):
         self.came(Dump("2027-02-08 02:00", name="/home"))
         self.stays("no volume is there", self.run_at("2027-02-08 02:00"), "no volume")
 
+    def test_two_clients(self) -> None:
+        """A client sends the name of another one's dump, or a second number for a dump."""
+        self.old_and_new(Dump(OLD), Dump(NEW, 1))
+        self.entered(Dump(OLD), Dump(NEW, 1))
+        self.stays("a second date", self.run_at(NEW), "and another date is entered too")
+        self.begin()
+        self.old_and_new(Dump(OLD), Dump(NEW))
+        with (self.clients / "usr.blocks").open("a") as file:
+            file.write(Dump(NEW, 6).number())
+        self.stays("a second number", self.run_at(NEW), "more than one number of blocks came")
+
+    def test_other_folders(self) -> None:
+        """A folder that is not named after a day stays, even if it is empty."""
+        others = ("1999-my-xx", "keep-me-ok")
+        for it in others:
+            (self.shelf / it).mkdir()
+        self.old_and_new(Dump(OLD), Dump(NEW))
+        self.same("all is well: no mail", self.run_at(NEW), GOOD)
+        self.same("the other folders stay", [*self.held()], [others[0], folder_of(NEW), others[1]])
+
     def test_more_blocks_than_the_dump_has(self) -> None:
         """The reels are not those of the dump that was entered."""
         new = Dump(NEW)

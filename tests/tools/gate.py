@@ -43,7 +43,8 @@ PROGRAMS = ("rmtd", "rdump", "rsim")
 # How many bytes of memory are wanted for a check: the largest took 3.4 GB. `rt ci` by itself reckons with up to 7.7, and leaves processors idle.
 CHECK = 4_000_000_000
 # What has mimalloc, the allocator of the prover, keep the memory that is free. It would give it back to the system and ask for it again: a check of
-# `drives` spent 2 hundredths of its time on the pages that the system then clears. With this the check held a tenth more. A value that is set already stays.
+# `drives` spent 2 hundredths of its time on the pages that the system then clears. With this the check held a tenth more.
+# A value that is set already stays.
 KEEPS_MEMORY = ("MIMALLOC_PURGE_DELAY", "-1")
 
 # Where the system tells the memory that is free, and a group's limit and what of that is used.
