@@ -444,7 +444,7 @@ def main() -> int:
     if wrong:
         print(f"no further edits: {' '.join(wrong)}")
         return 2
-    os.environ.setdefault(*KEEPS_MEMORY)
+    os.environ.update(KEEPS_MEMORY)
     trials = [Trial(it, "--anew" in sys.argv) for it in asked or known]
     if "--beside" in sys.argv:
         os.nice(LOWER)

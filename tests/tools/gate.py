@@ -44,8 +44,7 @@ PROGRAMS = ("rmtd", "rdump", "rsim")
 CHECK = 4_000_000_000
 # What has mimalloc, the allocator of the prover, keep the memory that is free. It would give it back to the system and ask for it again: a check of
 # `drives` spent 2 hundredths of its time on the pages that the system then clears. With this the check held a tenth more.
-# A value that is set already stays.
-KEEPS_MEMORY = ("MIMALLOC_PURGE_DELAY", "-1")
+KEEPS_MEMORY = {"MIMALLOC_PURGE_DELAY": "-1"}
 
 # Where the system tells the memory that is free, and a group's limit and what of that is used.
 MEMORY = Path("/proc/meminfo")
@@ -180,7 +179,7 @@ def main() -> int:
     parser = argparse.ArgumentParser(description="Runs the gate, and tells the minutes of each crate and check.")
     parser.add_argument("--minutes", type=Path, help="the file that the table is written to")
     asked = parser.parse_args()
-    os.environ.setdefault(*KEEPS_MEMORY)
+    os.environ.update(KEEPS_MEMORY)
     watch = Watch()
     watch.start()
     began = time.monotonic()
