@@ -13,7 +13,6 @@ from tests.lib.places import TOP
 UNATTENDED = str(TOP / "etc/unattended")
 NIGHT = str(TOP / "etc/night")
 NEW_REELS = str(TOP / "etc/new-reels")
-NIGHT = str(TOP / "etc/night")
 TO_SHELF = str(TOP / "etc/to-shelf")
 
 

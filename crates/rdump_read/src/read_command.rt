@@ -39,6 +39,8 @@ use sum_lines::Sums;
 /// - The read succeeds if the stack has no more reels, and no block is missing between those that
 ///   were read. With a length, it also succeeds at a reel that stays, if no block below the length
 ///   is missing.
+/// - With a length and a file that was not empty, the blocks below the length that follow the last
+///   one that was read are missing: the file's length does not show whether another run read them.
 ///
 /// With a sums file, the SHA-256 of each volume's record file is compared with the lines of its
 /// label, and the volume must end with a mark. If there are such lines and none has the sum, the
