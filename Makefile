@@ -5,10 +5,11 @@ SERVER := crates/rmtd/out/rmtd
 CLIENT := crates/rdump/out/rdump
 SIMULATOR := crates/rsim/out/rsim
 FEED := crates/bench_feed/out/bench_feed
-MINUTES := out/minutes.txt
 RATIOS := out/bench.tsv
 PROGRAMS := rmtd rdump rsim
-TOOL_TESTS := $(addprefix tests.tools.,test_further test_promises test_counts test_bench test_imports test_tested)
+TOOL_TESTS := $(addprefix tests.tools.,test_further test_gate test_promises test_counts test_bench test_imports test_tested)
+# The logic of the kit with which all here is proved, as `rt version` prints it.
+LOGIC := dac8208d650f15bf
 
 PREFIX ?= /usr/local
 DESTDIR ?=
@@ -17,7 +18,7 @@ BIN = $(DESTDIR)$(PREFIX)/bin
 MAN = $(DESTDIR)$(PREFIX)/share/man
 DOC = $(DESTDIR)$(PREFIX)/share/doc/rdump
 
-.PHONY: help build run try test edits bench deb install uninstall clean kit
+.PHONY: help build run try quick test edits check texts bench deb install uninstall clean kit
 .NOTPARALLEL:
 
 help: ## list these targets
@@ -32,9 +33,21 @@ run: kit ## show a conversation with the server, turn by turn; if it is not buil
 try: kit ## compile a program without its proofs, as out/try/PROGRAM: make try PROGRAM=rdump
 	@python3 -m tests.tools.unproved $(or $(PROGRAM),$(error make try needs a program: make try PROGRAM=rdump))
 
+quick: kit ## compile the three programs without their proofs, and test these from outside; it names what it skips
+	@python3 -m tests.tools.unproved $(PROGRAMS)
+	@python3 -m tests $(foreach it,$(PROGRAMS),--$(it) out/try/$(it))
+
 # The programs that are tested are those that `rt ci` has just proved and built.
-test: kit ## the gate: each proof from nothing, each wrong body that has to be refused, then the built programs from outside; it ends with the minutes of each
-	rm -rf $(SERVER) $(CLIENT) $(SIMULATOR) out/build
+test: texts ## prove all crates and their tests from nothing, and test the built programs from outside; it ends with the minutes of each
+	@python3 -m tests.tools.gate
+
+edits: kit ## try the wrong bodies that the prover has to refuse, many at once: make edits, or make edits CRATE=tape
+	@python3 -m tests.tools.further $(CRATE)
+
+check: texts ## make test, and make edits beside the tests from outside, as .ci/run does
+	@python3 -m tests.tools.gate --edits
+
+texts: kit ## look at the documents, the edits and the Python, and test the tools
 	python3 -m tests.tools.style
 	python3 -m tests.tools.promises
 	python3 -m tests.tools.homes
@@ -44,11 +57,6 @@ test: kit ## the gate: each proof from nothing, each wrong body that has to be r
 	python3 -m tests.tools.links
 	python3 -m tests.tools.tested
 	python3 -m unittest -q $(TOOL_TESTS)
-	python3 -m tests.tools.gate --minutes $(MINUTES)
-	@cat $(MINUTES)
-
-edits: kit ## try the further edits, wrong bodies that the prover has to refuse, many at once, as the gate does: make edits, or make edits CRATE=tape
-	@python3 -m tests.tools.further $(CRATE)
 
 bench: build ## long streams, reels in folders, dumps beside a floor, a long dumpdates file, a long reel and its sum, long schedules, and bytes in pieces; it ends with a table of ratios, which make bench JSON=FILE also writes to FILE as JSON
 	@python3 -m tests.tools.build bench_feed
@@ -88,3 +96,5 @@ clean: ## remove all that was built
 
 kit:
 	@command -v rt > /dev/null || { echo "make: the Rattle kit's command rt is not in PATH" >&2; exit 1; }
+	@found=$$(rt version | sed -n '1s/.* logic //p'); test "$$found" = $(LOGIC) || \
+		{ echo "make: all here is proved with a Rattle kit of logic $(LOGIC), and rt in PATH has logic $${found:-unknown}" >&2; exit 1; }

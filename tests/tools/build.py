@@ -1,15 +1,14 @@
-"""Builds programs: the libraries that they stand on first, side by side where none stands on another, each by `rt lib`, and then the
+"""Builds programs or libraries: the libraries that they stand on first, side by side where none stands on another, each by `rt lib`, and then the
 programs by `rt run`.
 
-    python3 -m tests.tools.build [--jobs N] [--tell] PROGRAM..
+    python3 -m tests.tools.build [--jobs N] [--tell] CRATE..
 
 It says first how long it is likely to take, and then tells each crate as it is built. `rt` locks each crate below the one that it
 works in, so each runs in a tree of its own under out/build, which has links to the sources and libraries that it needs; what it built
 then goes to the crate's own out/, where `rt` finds it. `--tell` only says what there is to build, and how long it is likely to take.
 
-The gate leaves programs that it has proved, and no stamp by which `rt` would know them. So it notes beside each program the checksum of all that the
-program is built from, and the program's own (note_proved). A program with such a note, of the sources as they are and of its own bytes, is not built
-again.
+Beside what was built lies a note: the checksum of all the sources that it was made from, and of what was made. The gate writes such notes too,
+beside what `rt ci` leaves. What has a note that fits is not built again.
 """
 
 from __future__ import annotations
@@ -22,9 +21,10 @@ import shutil
 import subprocess
 import sys
 import time
-from contextlib import contextmanager
+from contextlib import contextmanager, suppress
+from functools import lru_cache
 from pathlib import Path
-from typing import Iterator, NamedTuple
+from typing import Callable, Iterable, Iterator, NamedTuple
 
 from tests.lib.places import CRATES, TOP
 
@@ -57,10 +57,6 @@ class Crate(NamedTuple):
     def is_program(self) -> bool:
         return (self.folder() / "src/main.rt").is_file()
 
-    def built(self) -> Path:
-        """What `rt` writes last when it has built the crate."""
-        return self.folder() / "out" / (f"{self.name}.stamp" if self.is_program() else "rlib/stamp")
-
 
 Crates = dict[str, Crate]
 
@@ -84,66 +80,96 @@ def below(crates: Crates, names: list[str]) -> Crates:
     return found
 
 
-def newest(crate: Crate) -> float:
-    """When a source of the crate was changed last."""
-    return max(it.stat().st_mtime for part in PARTS for it in (crate.folder() / part).rglob("*") if it.is_file())
+# What was built, and from which sources.
 
 
-def unbuilt(crates: Crates) -> Crates:
-    """Those that `rt` has not built since they, or what they stand on, were changed, as far as the files' times tell."""
+@lru_cache
+def kit() -> Path:
+    """The folder of the kit."""
+    told = subprocess.run(("rt", "doc"), stdin=subprocess.DEVNULL, capture_output=True, text=True, check=True).stdout
+    return Path(told.strip()).parent
+
+
+@lru_cache
+def version() -> str:
+    """What the kit says of itself."""
+    return subprocess.run(("rt", "version"), stdin=subprocess.DEVNULL, capture_output=True, text=True, check=True).stdout
+
+
+def sums_of(crates: Crates) -> dict[str, str]:
+    """The checksum of all that each of these crates is built from: the kit, the crate's line, its sources, what it may use, and the same of the
+    crates below it, which come first here."""
+    found: dict[str, str] = {}
+    for name, crate in crates.items():
+        own = hashlib.sha256(version().encode() + (TOP / "HANDLES").read_bytes() + f"{crate.line}\n".encode())
+        for file in sorted(it for part in PARTS for it in (crate.folder() / part).rglob("*") if it.is_file()):
+            text = file.read_bytes()
+            own.update(f"{file.relative_to(crate.folder())} {len(text)}\n".encode() + text)
+        own.update("".join(found[use] for use in crate.uses).encode())
+        found[name] = own.hexdigest()
+    return found
+
+
+def made_by(crate: Crate) -> Path:
+    """The file that tells what was made: the program, or the part of a library that has the sum of its other parts."""
+    return crate.folder() / "out" / (crate.name if crate.is_program() else f"rlib/{crate.name}.rlib/format")
+
+
+def note_of(crate: Crate) -> Path:
+    """Where the note lies. `rt` removes or moves a library with all that lies beside it."""
+    return crate.folder() / "out" / ("" if crate.is_program() else "rlib") / f"{crate.name}.proved"
+
+
+def note(crates: Crates, name: str, sums: dict[str, str], place: Callable[[Crate], Path] = made_by) -> str:
+    """What is noted of a crate with these sources: their checksum, and that of what was made; of a library also of those below it, since it fits only
+    those that it was built over."""
+    found = hashlib.sha256()
+    for crate in [crates[name]] if crates[name].is_program() else below(crates, [name]).values():
+        found.update(hashlib.sha256(place(crate).read_bytes()).digest())
+    return f"{sums[name]} {found.hexdigest()}\n"
+
+
+def is_noted(crates: Crates, name: str, sums: dict[str, str], place: Callable[[Crate], Path] = made_by) -> bool:
+    """Whether what lies in the crate's place was made, with its proofs, from the sources as they are."""
+    try:
+        return note_of(crates[name]).read_text() == note(crates, name, sums, place)
+    except OSError:
+        return False
+
+
+def note_built(crates: Crates, names: Iterable[str], before: dict[str, str], since: float) -> list[str]:
+    """Notes what was built of these crates since a time. Returns those whose sources are no longer those that the build began with: they get no
+    note."""
+    changed = []
+    for name in names:
+        if sums_of(below(crates, [name]))[name] != before[name]:
+            changed.append(name)
+            continue
+        # What `rt` put back in its place has an older time. Something below it may be gone too.
+        with suppress(OSError):
+            if made_by(crates[name]).stat().st_ctime >= since:
+                note_of(crates[name]).write_text(note(crates, name, before))
+    return changed
+
+
+def unbuilt(crates: Crates, sums: dict[str, str]) -> Crates:
+    """Those of these crates that have to be built, with those that stand on them. `rt` builds over libraries that it knows by a stamp of its own; `rt
+    ci` leaves none, so if a crate is to be built, such libraries below it are built too."""
+    lost = [name for name in crates if not is_noted(crates, name, sums)]
+    unknown = [name for name, it in below(crates, lost).items() if not (it.is_program() or (it.folder() / "out/rlib/stamp").is_file())]
     found: Crates = {}
     for name, crate in crates.items():
-        stamp = crate.built()
-        time_of = stamp.stat().st_mtime if stamp.is_file() else 0.0
-        if time_of < newest(crate) or any(use in found for use in crate.uses):
+        if name in lost or name in unknown or any(use in found for use in crate.uses):
             found[name] = crate
     return found
 
 
-# What the gate has proved.
-
-
-def sum_of_sources(crates: Crates, names: list[str]) -> str:
-    """The checksum of all that programs are built from: the kit, the sources of their crates, and what the crates may use."""
-    found = hashlib.sha256()
-    kit = subprocess.run(("rt", "version"), stdin=subprocess.DEVNULL, capture_output=True, check=True).stdout
-    found.update(kit + (TOP / "HANDLES").read_bytes())
-    for crate in below(crates, names).values():
-        found.update(f"{crate.line}\n".encode())
-        files = sorted(it for part in PARTS for it in (crate.folder() / part).rglob("*") if it.is_file())
-        for it in files:
-            text = it.read_bytes()
-            found.update(f"{it.relative_to(CRATES)} {len(text)}\n".encode() + text)
-    return found.hexdigest()
-
-
-def program_of(crate: Crate) -> Path:
-    return crate.folder() / "out" / crate.name
-
-
-def note_of(crate: Crate) -> Path:
-    """Where it is noted that the gate has proved the program."""
-    return crate.folder() / "out" / f"{crate.name}.proved"
-
-
-def note(crates: Crates, name: str) -> str:
-    """What is noted of a program that was built from the sources as they are."""
-    return f"{sum_of_sources(crates, [name])} {hashlib.sha256(program_of(crates[name]).read_bytes()).hexdigest()}\n"
-
-
-def is_noted(crates: Crates, name: str) -> bool:
-    """Whether the gate has proved this program, of the sources as they are."""
-    there = note_of(crates[name])
-    return there.is_file() and program_of(crates[name]).is_file() and there.read_text() == note(crates, name)
-
-
-def note_proved(crates: Crates, names: list[str], before: str) -> None:
-    """Notes that the gate has proved these programs, where the sources are those that it began with."""
-    if sum_of_sources(crates, names) != before:
-        print("the sources were changed while the gate ran: `make build` proves what was changed")
-        return
-    for name in filter(lambda it: program_of(crates[it]).is_file(), names):
-        note_of(crates[name]).write_text(note(crates, name))
+def link_or_copy(one: str, other: str) -> None:
+    """Gives a file a second name, or copies it, as to another file system."""
+    try:
+        os.link(one, other)
+    except OSError:
+        shutil.copy(one, other)
 
 
 # How long it is likely to take.
@@ -272,9 +298,6 @@ def ended(running: dict[int, Run]) -> Done:
     run = running.pop(number)
     run.process.returncode = os.waitstatus_to_exitcode(status)
     take_back(run.crate)
-    if not status:
-        # `rt` leaves the file as it is where only the sources' times have changed.
-        os.utime(run.crate.built())
     return Done(run.crate, run.process.returncode, time.monotonic() - run.began, used.ru_utime + used.ru_stime)
 
 
@@ -311,10 +334,11 @@ def minutes(seconds: float) -> str:
 def told(names: list[str], wanted: Crates, processors: int) -> str:
     """What there is to build, and how long it is likely to take."""
     likely = likely_seconds(wanted, processors)
-    return f"{', '.join(names)}: builds {len(wanted)} crates, about {minutes(likely)} on {processors} processors"
+    what = ", ".join(names) if len(names) < 4 else f"{len(names)} crates"
+    return f"{what}: builds {len(wanted)} crates, about {minutes(likely)} on {processors} processors"
 
 
-def build(crates: Crates, wanted: Crates, processors: int) -> int:
+def build(crates: Crates, wanted: Crates, processors: int, sums: dict[str, str]) -> int:
     """Builds these, and tells of each; answers the exit status."""
     shutil.rmtree(TREES, ignore_errors=True)
     TREES.mkdir(parents=True)
@@ -323,6 +347,10 @@ def build(crates: Crates, wanted: Crates, processors: int) -> int:
         if done.status:
             print(f"{done.crate.name} was not built:\n{log_of(done.crate).read_text(errors='replace')[-4000:]}")
             return 1
+        # `rt` leaves as it is what it finds built.
+        if note_built(crates, [done.crate.name], sums, since=0):
+            print(f"the sources of {done.crate.name}, or of a crate below it, were changed meanwhile: run this again")
+            return 1
         processor += done.processor
         took = f"{done.seconds:.0f} seconds, {done.processor:.0f} of a processor"
         print(f"  {number} of {total}: {done.crate.name}, {took}", flush=True)
@@ -330,33 +358,26 @@ def build(crates: Crates, wanted: Crates, processors: int) -> int:
     return 0
 
 
-def is_current(crate: Crate) -> bool:
-    """Whether `rt` finds the program as it is to be: it goes by the sources' text, and by the kit."""
-    words = ("rt", "run", "--", *WORDS.get(crate.name, VERSION))
-    ran = subprocess.run(words, cwd=crate.folder(), stdin=subprocess.DEVNULL, capture_output=True, check=False)
-    if ran.returncode:
-        print(f"{crate.name} was not built:\n{ran.stderr.decode(errors='replace')[-4000:]}")
-    return ran.returncode == 0
+def build_all(names: list[str], processors: int, only_tell: bool = False) -> int:
+    """Builds these crates, if they are not built as they are, with those below them that are not; answers the exit status."""
+    crates = below(listed(), names)
+    lost = [it for it in names if not is_noted(crates, it, sums_of(crates))]
+    crates = below(crates, lost)
+    with locked({} if only_tell else crates):
+        sums = sums_of(crates)
+        wanted = unbuilt(crates, sums)
+        if wanted:
+            print(told(lost, wanted, processors), flush=True)
+        return build(crates, wanted, processors, sums) if wanted and not only_tell else 0
 
 
 def main() -> int:
-    parser = argparse.ArgumentParser(description="Builds programs and what they stand on, side by side.")
+    parser = argparse.ArgumentParser(description="Builds crates and what they stand on, side by side.")
     parser.add_argument("--jobs", type=int, default=len(os.sched_getaffinity(0)), help="how many processors it may use")
     parser.add_argument("--tell", action="store_true", help="only say what there is to build")
-    parser.add_argument("program", nargs="+", help="a crate of crates.txt")
+    parser.add_argument("crate", nargs="+", help="a crate of crates.txt")
     words = parser.parse_args()
-    crates = listed()
-    programs = [it for it in words.program if not is_noted(crates, it)]
-    needed = below(crates, programs)
-    with locked({} if words.tell else needed):
-        wanted = unbuilt(needed)
-        if wanted:
-            print(told(programs, wanted, words.jobs), flush=True)
-        if words.tell:
-            return 0
-        if wanted and build(crates, wanted, words.jobs):
-            return 1
-    return 0 if all(is_current(crates[it]) for it in programs if it not in wanted) else 1
+    return build_all(words.crate, words.jobs, words.tell)
 
 
 if __name__ == "__main__":

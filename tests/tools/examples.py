@@ -20,7 +20,7 @@ from tests.lib.places import TOP
 
 STORED = TOP / "crates/rmtd"
 # The crates of tests that repeat conversations: the bytes that are sent, and after them those that are answered.
-REPEATING = ("server_tests", "parts_tests", "programs_tests")
+REPEATING = ("server_tests", "parts_tests", "client_tests", "programs_tests")
 # A comment, a character, or a string of Rust, of which byte strings have a group.
 TOKEN = re.compile(r"""//[^\n]*|b?'(?:[^'\\]|\\.)'|b"((?:[^"\\]|\\.)*)"|"(?:[^"\\]|\\.)*\"""", re.DOTALL)
 

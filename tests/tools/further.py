@@ -1,15 +1,14 @@
 """Tries the further edits: wrong bodies that the prover has to refuse, many in one check.
 
     python3 -m tests.tools.further [--anew] [CRATE..]
-    python3 -m tests.tools.further --beside < OUTPUT
 
 The edits that `rt ci` tries are crates/CRATE/must-fail/NAME.edit, and each costs it a check. All others are crates/CRATE/further/NAME.edit, written
-alike, with controls beside them too. `make test` tries these with --beside: OUTPUT is what `rt ci` prints, and a crate's edits are tried as soon as
-the crates below it are proved (beside.py). If `rt ci` fails, no further lot begins. Functions are proved one by one, so many edits are tried at once:
-no two of a lot change functions of one name in one module. The log names each function that is refused. An edit is refused where a function that it
-changes is, for itself: where one only calls another that is refused, the edit is tried again in a later lot. A lot that shows none is halved.
+alike, with controls beside them too. `make edits` tries these, and first builds the libraries below that are not built as they are (build.py).
+Functions are proved one by one, so many edits are tried at once: no two of a lot change functions of one name in one module. The log names each
+function that is refused. An edit is refused where a function that it changes is, for itself: where one only calls another that is refused, the edit
+is tried again in a later lot. A lot that shows none is halved.
 
-A crate's lots run one after the other, over what `rt ci` proved of the crates below, and each over what those before it proved of this crate: so each
+A crate's lots run one after the other, over the libraries of the crates below, and each over what those before it proved of this crate: so each
 function that a lot needs is proved once. Only the functions that a lot changes and those that they call are checked. As many crates are tried at once
 as there are processors and memory for. What was refused over the same texts is kept on this machine after each lot, and not tried again
 (refusals.py); with --anew all are tried. It prints for each edit
@@ -36,14 +35,12 @@ from pathlib import Path
 from typing import Callable, NamedTuple
 
 from tests.lib.given import given
-from tests.tools import refusals
-from tests.tools.beside import Alone, Beside
-from tests.tools.controls import REFUSED, TOP, WAITS, Pair, applied, below, changed_at, module_of, names_of, pairs, places_of, verdicts
-from tests.tools.gate import KEEPS_MEMORY, checks_at_once
-from tests.tools.proved import Checked, Room, Work
+from tests.lib.places import TOP
+from tests.tools import build, refusals
+from tests.tools.edits import REFUSED, WAITS, Pair, applied, changed_at, module_of, names_of, pairs, places_of, verdicts
+from tests.tools.machine import KEEPS_MEMORY, ShortOfMemory, Turns, checks_at_once, processors
+from tests.tools.proved import Checked, Libraries, Stale, Work
 
-# How much lower the priority of checks beside `rt ci` is.
-LOWER = 10
 # A function of a crate: its module, as a log writes it, and its name.
 Place = tuple[str, str]
 # What the prover says at last of what it read, and did not prove.
@@ -296,20 +293,17 @@ def shown(work: Work, edits: list[Edit], waits: Waits) -> dict[str, str]:
     return refused_of(edits, ran.log) or shown(work, edits[:half], waits) | shown(work, edits[half:], waits)
 
 
-def outcomes(
-    work: Work, edits: list[Edit], goes_on: Callable[[], bool] = lambda: True, keep: Callable[[dict[str, str]], None] = lambda _: None
-) -> dict[str, str]:
+def outcomes(work: Work, edits: list[Edit], keep: Callable[[dict[str, str]], None] = lambda _: None) -> dict[str, str]:
     """What comes of each edit. Those that a lot does not show are tried in a later one. Has `keep` keep what each lot shows."""
     found: dict[str, str] = {}
     waits: Waits = set()
     left = sorted(edits, key=lambda it: not it.is_local())
-    while goes_on() and (lot := lot_of(work.folder, left, waits)):
+    while lot := lot_of(work.folder, left, waits):
         now = shown(work, lot, waits)
         keep(now)
         found |= now
         left = [it for it in left if it.name not in found]
-    why = "BAD EDIT: it can't be applied" if goes_on() else "NOT TRIED: rt ci failed"
-    return found | dict.fromkeys((it.name for it in left), why)
+    return found | dict.fromkeys((it.name for it in left), "BAD EDIT: it can't be applied")
 
 
 def edit_of(crate: str, file: Path) -> Edit:
@@ -361,11 +355,21 @@ class Trial:
             if now[name] == self.keys[name]:
                 refusals.keep(now[name], said)
 
-    def run(self, room: Room, how: Alone = Alone()) -> str:
+    def run(self, folder: Path, libraries: Libraries, turns: Turns) -> str:
         """Tries what is left, keeps what is refused, and answers how many checks that took."""
+        if not self.left():
+            return "no checks"
+        try:
+            libraries.take(build.listed()[self.crate].uses)
+        except Stale as why:
+            self.give_up(str(why))
+            return "no checks"
         size = self.size()
-        work = Work(room, self.crate, lambda: how.turn(size))
-        self.found |= outcomes(work, self.left(), how.goes_on, self.keep)
+        work = Work(folder, self.crate, libraries, lambda: turns.turn(size))
+        try:
+            self.found |= outcomes(work, self.left(), self.keep)
+        except ShortOfMemory as why:
+            self.give_up(str(why))
         work.remove()
         return f"{work.checks} checks, {work.seconds:.0f} seconds"
 
@@ -388,75 +392,41 @@ class Trial:
         return sum(not it.startswith(refusals.REFUSED) for it in self.found.values())
 
 
-def try_all(trials: list[Trial]) -> None:
-    """Tries what is left of these crates, and prints what comes of each edit as soon as its crate is done."""
-    left = sorted((it for it in trials if it.left()), key=lambda it: -it.size())
-    for it in trials:
-        if it not in left:
-            print(it.told("no checks"), flush=True)
-    if not left:
-        return
-    count = sum(len(it.left()) for it in left)
-    print(f"further edits: {count} of {len(left)} crates are tried, once `rt ci` has given or proved these and those below them", flush=True)
-    with tempfile.TemporaryDirectory(prefix="further-") as folder:
-        room = Room(Path(folder), [it.crate for it in left])
-        said = room.prove()
-        if said:
-            print(said, end="")
+def trials_of(crates: list[str], is_anew: bool = False) -> list[Trial]:
+    """The trials of these crates, or of all that have further edits."""
+    return [Trial(it, is_anew) for it in crates or sorted({it.parent.name for it in (TOP / "crates").glob("*/further")})]
+
+
+def try_all(trials: list[Trial], libraries: Libraries, turns: Turns) -> int:
+    """Tries what is left of these crates, and prints what comes of each edit as soon as its crate is done. Returns how many were not refused."""
+    with tempfile.TemporaryDirectory(prefix="further-") as folder, ThreadPoolExecutor(max(1, len(trials))) as pool:
 
         def try_one(trial: Trial) -> None:
-            if said:
-                trial.give_up("the crates are not proved as they stand: run rt ci")
-            how = "no checks" if said else trial.run(room)
-            print(trial.told(how), flush=True)
+            print(trial.told(trial.run(Path(folder), libraries, turns)), flush=True)
 
-        with ThreadPoolExecutor(checks_at_once()) as pool:
-            list(pool.map(try_one, left))
-
-
-def try_beside(trials: list[Trial], gate: Beside) -> None:
-    """Tries what is left of these crates while `rt ci` runs, each crate as soon as those below it are proved."""
-
-    def try_one(trial: Trial, folder: Path) -> None:
-        how = "no checks"
-        if trial.left() and gate.wait_for(below(trial.crate)):
-            folder.mkdir()
-            room = Room(folder, below(trial.crate))
-            said = room.prove() if room.crates else ""
-            room.copy(trial.crate)
-            if said:
-                print(said, end="")
-                trial.give_up("a crate below it is not proved")
-            else:
-                how = trial.run(room, gate)
-        trial.give_up("a crate below it is not proved")
-        print(trial.told(how), flush=True)
-
-    with tempfile.TemporaryDirectory(prefix="further-") as folder, ThreadPoolExecutor(max(1, len(trials))) as pool:
-        list(pool.map(lambda it: try_one(it, Path(folder, it.crate)), trials))
-
-
-def main() -> int:
-    """Tries the further edits of the crates that are named, or of all, and fails where one is not refused."""
-    known = sorted(it.parent.name for it in (TOP / "crates").glob("*/further"))
-    asked = [it for it in sys.argv[1:] if not it.startswith("--")]
-    wrong = [it for it in asked if it not in known]
-    if wrong:
-        print(f"no further edits: {' '.join(wrong)}")
-        return 2
-    os.environ.update(KEEPS_MEMORY)
-    trials = [Trial(it, "--anew" in sys.argv) for it in asked or known]
-    if "--beside" in sys.argv:
-        os.nice(LOWER)
-        try_beside(trials, Beside(sys.stdin))
-    else:
-        try_all(trials)
+        list(pool.map(try_one, trials))
     refusals.forget_old()
     count, failed = sum(len(it.found) for it in trials), sum(it.failed() for it in trials)
     if untold := [name for it in trials for name in it.untold()]:
         print(f"a search gave up at a limit, and the edit has no line `# limit:`: {', '.join(untold)}")
-    print(f"further edits: {count - failed} refused, {failed} not")
-    return 1 if failed else 0
+    print(f"further edits: {count - failed} refused, {failed} not", flush=True)
+    return failed
+
+
+def main() -> int:
+    """Tries the further edits of the crates that are named, or of all, and fails where one is not refused."""
+    asked = [it for it in sys.argv[1:] if not it.startswith("--")]
+    wrong = [it for it in asked if not (TOP / "crates" / it / "further").is_dir()]
+    if wrong:
+        print(f"no further edits: {' '.join(wrong)}")
+        return 2
+    os.environ.update(KEEPS_MEMORY)
+    trials = trials_of(asked, "--anew" in sys.argv)
+    needed = sorted({name for it in trials if it.left() for name in build.listed()[it.crate].uses})
+    if build.build_all(needed, processors()):
+        return 1
+    with tempfile.TemporaryDirectory(prefix="libraries-") as folder:
+        return int(try_all(trials, Libraries(Path(folder)), Turns(checks_at_once())) > 0)
 
 
 if __name__ == "__main__":

@@ -26,6 +26,8 @@ PAGE = TOP / "docs/MESSAGES.md"
 PROGRAMS = {
     "rmtd": ("rmtd", "rmtd_serve", "sockets", "reel_files", "file_medium"),
     "rdump": (
+        "named_files",
+        "printable",
         "rdump",
         "rdump_commands",
         "rdump_dump",
@@ -35,6 +37,7 @@ PROGRAMS = {
         "rdump_read",
         "rdump_sums",
         "rdump_system",
+        "refusals",
         "sum_lines",
     ),
     "rsim": ("rsim", "rsim_schedule"),
@@ -46,6 +49,7 @@ SECTIONS = {
     "rmtd at its start": "rmtd",
     "The log of rmtd": "rmtd",
     "rdump": "rdump",
+    "The errors of a server": "rdump",
     "The lines of rdump ls": "rdump",
     "rsim": "rsim",
 }
@@ -137,7 +141,7 @@ def check_messages(program: str, messages: list[Text]) -> Iterator[str]:
     """Each message of the page that has a piece of no string."""
     known = {piece for it in strings(PROGRAMS[program] + LIBRARIES) for piece in it.pieces()} | set(FROM_THE_KIT)
     one = "|".join(map(re.escape, sorted(known, key=len, reverse=True)))
-    several = re.compile(f"(?:{one})(?:[ ,:;/]+(?:{one}))*")
+    several = re.compile(f"(?:{one})(?:[ ,:;/()]+(?:{one}))*")
     for it in messages:
         for piece in it.pieces():
             if not several.fullmatch(piece):

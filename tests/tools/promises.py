@@ -23,7 +23,7 @@ from pathlib import Path
 from typing import NamedTuple
 
 from tests.tools.contracts import RECORDS, TOP, Call, Text, breaks_of, broken, calls_of, first_sentence, libraries, paragraphs
-from tests.tools.controls import FOLDERS, applied, is_beside, pairs
+from tests.tools.edits import FOLDERS, applied, is_beside, pairs
 
 PROMISES = TOP / "docs" / "PROMISES.md"
 MISTAKES = PROMISES.with_name("MISTAKES.md")
@@ -50,7 +50,7 @@ This page says what each public function promises, clause by clause, and lists w
 - Below the name are the promises of the contract. Each promise follows the names of its clauses. If a contract has only one clause, the clause has no
   name. If a call has no contract, only its safety is proved. Some private calls are listed too, because an edit breaks one of their clauses.
 - `refused` lists *edits*. An edit replaces code by wrong code that breaks the promise, and the prover refuses the wrong code. The edit `crate/name`
-  is the file `NAME.edit` in `crates/CRATE/must-fail/` or in `crates/CRATE/further/`. `make test` tries all edits. The file `NAME.control.md` beside
+  is the file `NAME.edit` in `crates/CRATE/must-fail/` or in `crates/CRATE/further/`. `make check` tries all edits. The file `NAME.control.md` beside
   an edit is the *control* of the edit: right code for the same place, which the prover accepts. The control shows that the prover refuses the edit
   because its code is wrong, and not because the text was changed.
 
@@ -62,7 +62,7 @@ ABOUT_LIMITS = """\
 The prover searches for a proof by *tactics*, and each tactic has a limit. For the edits in this list, a tactic reached its limit before it had tried
 everything. So the refusal alone does not show that the edit breaks a promise. For each edit, the list names the clauses that the prover could not
 prove for the wrong code. With the same tactics, the prover proves the control of the edit. If a search gave up at an edit that is missing in the
-list, `make test` names the edit at its end. The list does not contain edits that are refused because an answer in a proof file does not prove the
+list, `make edits` names the edit at its end. The list does not contain edits that are refused because an answer in a proof file does not prove the
 wrong code. There, the prover tries no other proof.
 """
 ABOUT_UNCONTROLLED = """\

@@ -1,41 +1,27 @@
-"""Checks of crates over the libraries that the gate has proved.
+"""Checks of crates over libraries that are proved already.
 
-`rt ci` keeps what it proved beside the kit, by the checksums of all that it read, and gives it in a second to a later run over the same files. So a
-room, which is a folder with some crates and those below them, has their libraries where `rt ci` runs there: it proves only what no earlier run did.
-`rt ci` keeps no proof of a function, though, and `rt check` would build each library anew. A check here is one of the kit's `rattle`, as `rt ci` runs
-it for an edit: over these libraries, and over what the checks before it in the same work folder have proved.
+`rt ci` leaves the libraries that it proved, and `make build` leaves its own; each has a note of the sources that it was built from (build.py). A
+check here is one of the kit's `rattle`, as `rt ci` runs it for an edit: over these libraries, and over what the checks before it in the same folder
+have proved. It proves nothing of the crates below, and never reads a library that was built from other sources than those that stand.
 """
 
 from __future__ import annotations
 
-import os
 import shutil
 import signal
 import subprocess
+import threading
 import time
 from contextlib import nullcontext
-from functools import lru_cache
 from pathlib import Path
 from typing import Callable, ContextManager, Iterable, NamedTuple
 
-from tests.tools.controls import FOLDERS, TOP, Pair, applied, below, listed
-from tests.tools.gate import checks_at_once
+from tests.lib.places import TOP
+from tests.tools import build
+from tests.tools.edits import Pair, applied
 
-# What a crate's check reads of it.
-PARTS = ("src", "specs", "proofs")
-
-
-@lru_cache
-def kit() -> Path:
-    """The folder of the kit."""
-    told = subprocess.run(("rt", "doc"), stdin=subprocess.DEVNULL, capture_output=True, text=True, check=True).stdout
-    return Path(told.strip()).parent
-
-
-@lru_cache
-def version() -> str:
-    """What the kit says of itself."""
-    return subprocess.run(("rt", "version"), stdin=subprocess.DEVNULL, capture_output=True, text=True, check=True).stdout
+# How much lower the priority of checks is, so that nothing else waits for them.
+LOWER = "10"
 
 
 class Checked(NamedTuple):
@@ -45,55 +31,52 @@ class Checked(NamedTuple):
     log: str
 
 
-def spoken(words: tuple[str, ...], folder: Path, env: dict[str, str] | None = None) -> Checked:
-    """Runs a command in a folder, and reads all that it prints."""
-    log = subprocess.PIPE
-    ran = subprocess.run(
-        words, cwd=folder, env=env, stdin=subprocess.DEVNULL, stdout=log, stderr=subprocess.STDOUT, text=True, errors="replace", check=False
-    )
-    return Checked(ran.returncode, ran.stdout)
+class Stale(Exception):
+    """A library is not there, or was built from other sources."""
 
 
-class Room:
-    """A folder with these crates, and those below them, as they stand in the repository."""
+class Libraries:
+    """The libraries that checks read, in a folder of their own: links to those of the repository as they were when they were taken. What `rt` puts in
+    their places meanwhile changes nothing here."""
 
-    def __init__(self, folder: Path, crates: Iterable[str]) -> None:
+    def __init__(self, folder: Path) -> None:
         self.folder = folder
-        self.crates = set(crates).union(*map(below, crates))
-        # For `rt ci` this is the top of a repository, wherever it lies.
-        (folder / ".git").mkdir()
-        lines = [line for name, line in listed().items() if name in self.crates]
-        (folder / "crates.txt").write_text("\n".join(lines) + "\n", encoding="utf-8")
-        shutil.copy(TOP / "HANDLES", folder / "HANDLES")
-        for name in self.crates:
-            self.copy(name)
+        self.taken: set[str] = set()
+        self.alone = threading.Lock()
 
-    def copy(self, name: str) -> None:
-        """Copies a crate's sources, specs and proofs from the repository."""
-        shutil.copytree(TOP / "crates" / name, self.crate(name), ignore=shutil.ignore_patterns("out", *FOLDERS))
+    def take(self, crates: Iterable[str]) -> None:
+        """Takes the libraries of these crates. Stale says which of them is not built from the sources that stand."""
+        every = build.below(build.listed(), [*crates])
+        sums = build.sums_of(every)
+        with self.alone:
+            for name in filter(lambda it: it not in self.taken, every):
+                self.take_one(every, name, sums)
 
-    def crate(self, name: str) -> Path:
-        return self.folder / "crates" / name
+    def take_one(self, every: build.Crates, name: str, sums: dict[str, str]) -> None:
+        try:
+            shutil.copytree(build.made_by(every[name]).parent, self.path(name), copy_function=build.link_or_copy)
+            # The links are looked at, and not what may stand in their place by now.
+            is_noted = build.is_noted(every, name, sums, lambda it: self.path(it.name) / "format")
+        except (OSError, shutil.Error):
+            is_noted = False
+        if not is_noted:
+            shutil.rmtree(self.path(name), ignore_errors=True)
+            raise Stale(f"{name} is not built from the sources as they are")
+        self.taken.add(name)
 
-    def library(self, name: str) -> Path:
-        return self.crate(name) / "out/rlib" / f"{name}.rlib"
-
-    def prove(self) -> str:
-        """Has `rt ci` give or prove the libraries. Answers what it said where it fails."""
-        env = {**os.environ, "RT_JOBS": str(checks_at_once())}
-        ran = spoken(("rt", "ci"), self.folder, env)
-        return ran.log if ran.status else ""
+    def path(self, name: str) -> Path:
+        return self.folder / name / f"{name}.rlib"
 
     def words(self, crate: str) -> list[str]:
         """What `rattle check` is told of a crate."""
-        own, uses = below(crate), listed()[crate].partition(": ")[2].split()
-        libraries = [f"{it}={self.library(it)}" if it in own else f"{it}={kit()}/rlibs/{it}.rlib" for it in ("std", *uses)]
-        folders = [f"{kit()}/rlibs", *(self.library(it).parent for it in sorted(own))]
-        root = "src/main.rt" if (self.crate(crate) / "src/main.rt").is_file() else "src/lib.rt"
-        words = ["--crate-name", crate, root]
-        words += [word for it in libraries for word in ("--extern", it)]
-        words += [word for it in folders for word in ("-L", f"dependency={it}")]
-        words += ["--antt-project", f"{kit()}/rattle/logic/antt-project.json", "--logic-built", f"{kit()}/logic_built"]
+        it = build.listed()[crate]
+        own, uses = build.below(build.listed(), [*it.uses]), it.line.partition(": ")[2].split()
+        libraries = [f"{name}={self.path(name) if name in own else build.kit() / 'rlibs' / f'{name}.rlib'}" for name in ("std", *uses)]
+        folders = [f"{build.kit()}/rlibs", *(self.path(name).parent for name in sorted(own))]
+        words = ["--crate-name", crate, "src/main.rt" if it.is_program() else "src/lib.rt"]
+        words += [word for library in libraries for word in ("--extern", library)]
+        words += [word for folder in folders for word in ("-L", f"dependency={folder}")]
+        words += ["--antt-project", f"{build.kit()}/rattle/logic/antt-project.json", "--logic-built", f"{build.kit()}/logic_built"]
         return [*words, "--links", f"{crate}=", "--jobs", "1"]
 
 
@@ -101,14 +84,14 @@ class Work:
     """A crate that is checked again and again, each time with other changes: what a check proves, the later ones take. Each check runs in a
     `turn`."""
 
-    def __init__(self, room: Room, crate: str, turn: Callable[[], ContextManager[None]] = nullcontext) -> None:
+    def __init__(self, folder: Path, crate: str, libraries: Libraries, turn: Callable[[], ContextManager[None]] = nullcontext) -> None:
         self.crate, self.turn = crate, turn
         # No name that is the crate's alone, so that the gate's watch takes the checks there for those of edits.
-        self.folder = room.folder / "edits" / f"{crate}-edits"
-        self.words = room.words(crate)
+        self.folder = folder / f"{crate}-edits"
+        self.words = libraries.words(crate)
         self.checks, self.seconds = 0, 0.0
-        for part in filter(lambda it: (room.crate(crate) / it).is_dir(), PARTS):
-            shutil.copytree(room.crate(crate) / part, self.folder / part)
+        for part in filter(lambda it: (TOP / "crates" / crate / it).is_dir(), build.PARTS):
+            shutil.copytree(TOP / "crates" / crate / part, self.folder / part)
 
     def check(self, changes: list[Pair], only: Iterable[str] = ()) -> Checked:
         """Checks the crate with these changes: the functions of these names and those that they call, or all where there are none. The files are as
@@ -131,9 +114,12 @@ class Work:
     def rattle(self, words: list[str]) -> Checked:
         with self.turn():
             began = time.monotonic()
-            ran = spoken((str(kit() / "bin/rattle"), "check", *words), self.folder)
+            whole, log = ("nice", "-n", LOWER, str(build.kit() / "bin/rattle"), "check", *words), subprocess.PIPE
+            ran = subprocess.run(
+                whole, cwd=self.folder, stdin=subprocess.DEVNULL, stdout=log, stderr=subprocess.STDOUT, text=True, errors="replace", check=False
+            )
         self.checks, self.seconds = self.checks + 1, self.seconds + time.monotonic() - began
-        return ran
+        return Checked(ran.returncode, ran.stdout)
 
     def remove(self) -> None:
         """Removes what the checks kept: a few hundred MB."""

@@ -15,12 +15,13 @@ import time
 from contextlib import suppress
 from pathlib import Path
 
-from tests.tools import controls, proved
+from tests.lib.places import TOP
+from tests.tools import build, edits
 
 # How every refusal begins, and nothing else that is said of an edit.
 REFUSED = "refused"
 # What decides beside the crates and the kit.
-SCRIPTS = ("further.py", "beside.py", "proved.py", "controls.py", "refusals.py")
+SCRIPTS = ("further.py", "proved.py", "edits.py", "refusals.py")
 # How a line begins that is a comment and no more, by the ending of the file's name. No string of a source has such a line.
 COMMENTS = {".rt": b"//", ".antt": b"--"}
 # How many seconds a refusal is kept that no run has used.
@@ -49,15 +50,14 @@ def without_comments(file: Path) -> bytes:
 def sum_of_crate(crate: str) -> str:
     """The checksum of all that decides on an edit of a crate, but for the edit."""
     found = hashlib.sha256()
-    add(found, "kit", proved.version().encode())
-    add(found, "HANDLES", (controls.TOP / "HANDLES").read_bytes())
+    add(found, "kit", build.version().encode())
+    add(found, "HANDLES", (TOP / "HANDLES").read_bytes())
     for name in SCRIPTS:
         add(found, name, (Path(__file__).parent / name).read_bytes())
-    lines = controls.listed()
-    for name in sorted({crate} | controls.below(crate)):
-        add(found, name, lines[name].encode())
-        folder = controls.TOP / "crates" / name
-        for file in sorted(it for part in proved.PARTS for it in (folder / part).rglob("*") if it.is_file()):
+    for name, one in sorted(build.below(build.listed(), [crate]).items()):
+        add(found, name, one.line.encode())
+        folder = TOP / "crates" / name
+        for file in sorted(it for part in build.PARTS for it in (folder / part).rglob("*") if it.is_file()):
             add(found, str(file.relative_to(folder)), without_comments(file))
     return found.hexdigest()
 
@@ -65,7 +65,7 @@ def sum_of_crate(crate: str) -> str:
 def key_of(crate_sum: str, edit: Path) -> str:
     """The name under which the refusal of an edit is kept."""
     found = hashlib.sha256(crate_sum.encode())
-    add(found, edit.name, repr(controls.pairs(edit.read_text(encoding="utf-8"))).encode())
+    add(found, edit.name, repr(edits.pairs(edit.read_text(encoding="utf-8"))).encode())
     return found.hexdigest()
 
 

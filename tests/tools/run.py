@@ -18,8 +18,8 @@ from typing import Iterator
 from tests.lib.examples import Turn, examples
 from tests.lib.given import given
 from tests.lib.input_forms import receive, send, started
-from tests.tools.build import listed
-from tests.tools.unproved import is_new, unproved
+from tests.tools.build import below, is_noted, listed, made_by, sums_of
+from tests.tools.unproved import unproved
 
 SERVER = "rmtd"
 NOT_BUILT = f"""{SERVER} is not built yet: `make build` proves and builds it.
@@ -76,9 +76,9 @@ def shown(data: bytes) -> str:
 
 
 def built() -> Path | None:
-    """The server that was built from the sources as they are, as far as the files' times tell."""
-    program = listed()[SERVER].folder() / "out" / SERVER
-    return program if is_new(program, SERVER) else None
+    """The server that was built from the sources as they are."""
+    crates = below(listed(), [SERVER])
+    return made_by(crates[SERVER]) if is_noted(crates, SERVER, sums_of(crates)) else None
 
 
 def turns(program: Path, wanted: tuple[Turn, ...]) -> Iterator[bytes]:

@@ -4,13 +4,14 @@ from __future__ import annotations
 
 import os
 import tempfile
+import time
 from pathlib import Path
 from typing import Callable, Iterable
 from unittest.mock import patch
 
 from tests.lib.case import Case
-from tests.tools import beside, controls, further, gate, proved, refusals
-from tests.tools.controls import Pair
+from tests.tools import build, edits, further, machine, proved, refusals
+from tests.tools.edits import Pair
 from tests.tools.further import Edit
 
 CRATE = """//! Words.
@@ -51,8 +52,8 @@ impl From<AllocError> for WordFault {
 def edit(name: str, old: str, new: str) -> Edit:
     """An edit of the made crate."""
     changes = [Pair("src/lib.rt", old, new)]
-    folder = controls.TOP / "crates/words"
-    return Edit(name, changes, controls.places_of("words", folder, changes), further.only_of("words", folder, changes))
+    folder = build.listed()["words"].folder()
+    return Edit(name, changes, edits.places_of("words", folder, changes), further.only_of("words", folder, changes))
 
 
 def make_repository(top: Path) -> None:
@@ -76,9 +77,10 @@ class Made(Case):
         self.folder = Path(self.enterContext(tempfile.TemporaryDirectory(prefix="test-further-")))
         self.top = self.folder / "top"
         self.enterContext(patch.dict(os.environ, {"XDG_CACHE_HOME": str(self.folder / "cache")}))
-        for module in (controls, further, proved):
+        for module in (build, further, proved, refusals):
             self.enterContext(patch.object(module, "TOP", self.top))
-        self.enterContext(patch.object(proved, "version", lambda: "a kit"))
+        self.enterContext(patch.object(build, "CRATES", self.top / "crates"))
+        self.enterContext(patch.object(build, "version", lambda: "a kit"))
         make_repository(self.top)
 
 
@@ -321,7 +323,7 @@ class Keys(Made):
 
     def test_kit(self) -> None:
         before = self.key()
-        with patch.object(proved, "version", lambda: "a later kit"):
+        with patch.object(build, "version", lambda: "a later kit"):
             self.holds("another kit has another key", self.key() != before)
 
     def test_files(self) -> None:
@@ -376,7 +378,7 @@ class Answering(proved.Work):
 
     def __init__(self, answer: proved.Checked, meanwhile: Callable[[], object] = lambda: None) -> None:
         self.answer, self.meanwhile = answer, meanwhile
-        self.checks, self.seconds, self.folder = 1, 1.0, controls.TOP / "crates/words"
+        self.checks, self.seconds, self.folder = 1, 1.0, build.listed()["words"].folder()
         self.asked: list[list[str]] = []
 
     def check(self, changes: list[Pair], only: Iterable[str] = ()) -> proved.Checked:
@@ -391,16 +393,11 @@ class Answering(proved.Work):
 class Trials(Made):
     """The edit of the made crate is tried, and what was refused is not tried again."""
 
-    def setUp(self) -> None:
-        super().setUp()
-        (self.folder / "room").mkdir()
-        self.room = proved.Room(self.folder / "room", ())
-
     def tried(self, work: Answering) -> further.Trial:
         """A trial of the crate, with these answers."""
         trial = further.Trial("words")
-        with patch.object(further, "Work", lambda *_: work):
-            trial.run(self.room)
+        with patch.object(further, "Work", lambda *_: work), patch.object(proved.Libraries, "take", lambda *_: None):
+            trial.run(self.folder, proved.Libraries(self.folder), machine.Turns(1))
         return trial
 
     def left(self, is_anew: bool = False) -> list[str]:
@@ -430,7 +427,7 @@ class Trials(Made):
     def test_a_comment_that_has_the_text(self) -> None:
         trial = self.tried(Answering(REFUSED))
         source = self.top / "crates/words/src/lib.rt"
-        source.write_text(f"// Not {controls.pairs(trial.files[0].read_text())[0].old}\n{CRATE}")
+        source.write_text(f"// Not {edits.pairs(trial.files[0].read_text())[0].old}\n{CRATE}")
         self.same("nor counts what is kept where a comment makes it one that can't be applied", self.left(), ["counts_one_less"])
 
     def test_more_than_bodies(self) -> None:
@@ -458,74 +455,123 @@ class Trials(Made):
         self.same("but where a crate below changed", self.left(), ["counts_one_less"])
 
 
-class Besides(Case):
-    """Lots beside `rt ci`: what its output says is proved, and which check begins."""
+class Libraries(Made):
+    """Which libraries a check may read."""
 
     def setUp(self) -> None:
-        reading, writing = os.pipe()
-        source = self.enterContext(os.fdopen(reading))
-        self.output = os.fdopen(writing, "w")
-        self.lots = beside.Beside(source, processors=2)
-        self.addCleanup(self.end)
-        self.enterContext(patch.object(beside, "other_checks", lambda: 0))
+        super().setUp()
+        for name in ("other", "words"):
+            self.build(name)
 
-    def end(self) -> None:
-        """Ends the output, and waits until that is read."""
-        self.output.close()
-        self.lots.wait_for(["a crate that is never proved"])
+    def build(self, name: str, text: str = "made") -> None:
+        """Leaves a library, as `rt ci` does, and its note."""
+        crates = build.below(build.listed(), [name])
+        made = build.made_by(crates[name])
+        made.parent.mkdir(parents=True, exist_ok=True)
+        made.write_text(text)
+        build.note_built(crates, [name], build.sums_of(crates), since=0)
 
-    def say(self, text: str) -> None:
-        self.output.write(text)
-        self.output.flush()
+    def stale(self, name: str = "words") -> str:
+        """Why a library can't be taken, nothing where it can."""
+        with tempfile.TemporaryDirectory(dir=self.folder) as folder:
+            try:
+                proved.Libraries(Path(folder)).take([name])
+            except proved.Stale as why:
+                return str(why)
+        return ""
 
-    def test_proved_crates(self) -> None:
-        self.say("rt: other proved\nrt: words is kept: an earlier run\nrt: above: trying its must-fail edits (2)\n")
-        self.same("a crate is proved, or kept", self.lots.wait_for(["other", "words"]), True)
-        self.holds("one whose edits are tried is not yet", "above" not in self.lots.proved, self.lots.proved)
-        self.say("rt: above: another run is proving the same; waiting for itrt: wider is kept: an earlier run\n")
-        self.same("also where its message goes on in the line of another", self.lots.wait_for(["wider"]), True)
+    def test_sources(self) -> None:
+        self.same("libraries of the sources as they are", self.stale(), "")
+        source = self.top / "crates/other/src/lib.rt"
+        source.write_text("//! More.\n")
+        self.same("one of other sources", self.stale("other"), "other is not built from the sources as they are")
+        trial = further.Trial("words")
+        told = trial.run(self.folder, proved.Libraries(self.folder / "links"), machine.Turns(1))
+        self.same("a crate above it is not checked", told, "no checks")
+        self.same("and its edits are not tried", trial.found, {"counts_one_less": "NOT TRIED: other is not built from the sources as they are"})
+        source.write_text("//! Others.\n")
+        self.same("the old sources again", self.stale(), "")
+
+    def test_made(self) -> None:
+        made = build.made_by(build.listed()["other"])
+        made.write_text("made anew")
+        self.same("one that was replaced", self.stale("other"), "other is not built from the sources as they are")
+        self.build("other", "made anew")
+        self.same("one that is noted anew", self.stale("other"), "")
+        self.same("but one above it was built over another", self.stale(), "words is not built from the sources as they are")
+        made.unlink()
+        self.same("one that is not there", self.stale("other"), "other is not built from the sources as they are")
+
+    def test_links(self) -> None:
+        libraries = proved.Libraries(self.folder / "links")
+        libraries.take(["words"])
+        build.made_by(build.listed()["other"]).unlink()
+        libraries.take(["words"])
+        self.same("what was taken stays as it was", libraries.path("other").joinpath("format").read_text(), "made")
+
+    def test_what_is_put_back(self) -> None:
+        crates = build.below(build.listed(), ["other"])
+        build.note_of(crates["other"]).unlink()
+        build.note_built(crates, ["other"], build.sums_of(crates), since=time.time() + 1)
+        self.same("an older library gets no note", self.stale("other"), "other is not built from the sources as they are")
+
+    def test_sources_that_change_meanwhile(self) -> None:
+        crates = build.below(build.listed(), ["words"])
+        before = build.sums_of(crates)
+        (self.top / "crates/other/src/lib.rt").write_text("//! More.\n")
+        self.same("what was built of changed sources is told", build.note_built(crates, ["words"], before, since=0), ["words"])
+        self.same("and not noted", build.is_noted(crates, "words", build.sums_of(crates)), False)
+
+    def test_what_is_built(self) -> None:
+        crates = build.below(build.listed(), ["words"])
+        self.same("nothing", [*build.unbuilt(crates, build.sums_of(crates))], [])
+        (self.top / "crates/words/src/lib.rt").write_text("//! Words.\n")
+        self.same("with what `rt ci` left below it", [*build.unbuilt(crates, build.sums_of(crates))], ["other", "words"])
+        (self.top / "crates/other/out/rlib/stamp").write_text("a stamp")
+        self.same("and without what `rt` knows", [*build.unbuilt(crates, build.sums_of(crates))], ["words"])
+
+
+class Turns(Case):
+    """Which check begins."""
+
+    def setUp(self) -> None:
+        self.turns = machine.Turns(2)
+        self.free = self.enterContext(patch.object(machine, "free_memory", return_value=machine.CHECK))
 
     def test_which_check_begins(self) -> None:
-        with self.lots.changed, patch.object(self.lots, "waiting", [3, 5]):
-            with patch.object(beside, "other_checks", lambda: 1):
-                self.same("the largest crate begins", (self.lots.may_begin(5), self.lots.may_begin(3)), (True, False))
-                with patch.object(self.lots, "running", 1):
-                    self.same("no check begins if all processors are taken", self.lots.may_begin(5), False)
-                with patch.object(beside, "free_memory", lambda: 0):
-                    self.same("nor without memory beside another check", self.lots.may_begin(5), False)
-            with patch.object(beside, "free_memory", lambda: 0):
-                self.same("but alone it does", self.lots.may_begin(5), True)
+        self.turns.waiting = [3, 5]
+        self.same("the largest crate begins", (self.turns.begins(3), self.turns.begins(5)), (False, True))
+        self.turns.waiting = [3]
+        self.same("no check begins if all processors are taken", (self.turns.begins(3), self.turns.begins(3)), (True, False))
+
+    def test_memory(self) -> None:
+        self.turns.waiting = [3]
+        self.free.return_value = machine.CHECK - 1
+        self.same("no check begins without memory", self.turns.begins(3), False)
+        self.turns.waiting = []
+        with patch.object(machine, "PAUSE", 0.001), patch.object(machine, "LONGEST", 0.002):
+            with self.assertRaises(machine.ShortOfMemory), self.turns.turn(3):
+                pass
+        self.same("and one that would wait for ever fails", (self.turns.running, self.turns.waiting), (0, []))
 
     def test_turns(self) -> None:
         def counted() -> tuple[int, list[int]]:
-            return self.lots.running, self.lots.waiting
+            return self.turns.running, self.turns.waiting
 
-        with patch.object(self.lots, "begins", lambda _: 1 / 0), self.assertRaises(ZeroDivisionError), self.lots.turn(6):
+        with patch.object(self.turns, "begins", lambda _: 1 / 0), self.assertRaises(ZeroDivisionError), self.turns.turn(6):
             pass
         self.same("a turn that fails waits no longer", counted(), (0, []))
-        with self.lots.turn(4):
+        with self.turns.turn(4):
             self.same("a turn counts", counted(), (1, []))
-        self.same("up to its end", self.lots.running, 0)
-
-    def test_a_run_that_fails(self) -> None:
-        self.same("lots go on while the run does", self.lots.goes_on(), True)
-        self.say("12 passed, 1 failed\n")
-        self.output.close()
-        self.same("what is not proved at the end is not waited for", self.lots.wait_for(["above"]), False)
-        self.same("a run that failed ends the lots", self.lots.goes_on(), False)
-
-    def test_a_run_that_passes(self) -> None:
-        self.say("12 passed, 0 failed\n")
-        self.end()
-        self.same("and one that passed does not", self.lots.goes_on(), True)
+        self.same("up to its end", self.turns.running, 0)
 
 
 class Processes(Case):
     """What is read of the processes of this machine."""
 
     def test_a_process_that_has_ended(self) -> None:
-        with patch.object(beside, "words_of", lambda _: []):
-            self.same("a process that has ended is no check", beside.other_checks(), 0)
+        with patch.object(machine, "words_of", lambda _: []):
+            self.same("a process that has ended is no check", machine.provers(), [])
 
     def test_the_check_of_a_lot(self) -> None:
         """It runs in a folder that has not the crate's name, so the gate counts it under edits."""
@@ -535,5 +581,4 @@ class Processes(Case):
         lots.mkdir()
         (process / "cmdline").write_bytes(b"rattle\0check\0--crate-name\0words\0src/lib.rt\0")
         (process / "cwd").symlink_to(lots)
-        with patch.object(gate, "is_ours", lambda _: True):
-            self.same("the check of a lot counts as edits", gate.check_of(process), ("words", "edits"))
+        self.same("the check of a lot counts as edits", machine.check_of(process), ("words", "edits"))

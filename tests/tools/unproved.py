@@ -1,10 +1,10 @@
-"""Compiles a program without its proofs, as out/try/PROGRAM, so that a change can be tried before it is proved.
+"""Compiles programs without their proofs, as out/try/PROGRAM, so that a change can be tried before it is proved.
 
-    python3 -m tests.tools.unproved PROGRAM
+    python3 -m tests.tools.unproved PROGRAM..
 
 `rt try` compiles a program with checks that stop it at an overflow, an index out of bounds or a bad access, runs it, and keeps nothing. So it
-is given words with which the program waits, and the program's file is copied while it runs. Where that was done since the sources were changed,
-nothing is compiled. PROGRAM is rmtd, rdump or rsim.
+is given words with which the program waits, and the program's file is copied while it runs. The checksum of the sources is noted beside it: what was
+compiled from the sources as they are is not compiled again. PROGRAM is rmtd, rdump or rsim. Of these checks the kit lets none be left out.
 """
 
 from __future__ import annotations
@@ -16,10 +16,12 @@ import subprocess
 import sys
 import tempfile
 import time
+from concurrent.futures import ThreadPoolExecutor
 from pathlib import Path
 
 from tests.lib.places import TOP
-from tests.tools.build import below, listed, newest
+from tests.tools.build import below, listed, sums_of
+from tests.tools.machine import checks_at_once
 
 TRIED = TOP / "out/try"
 # Words with which each program waits: for a client, or for somebody who writes to the pipe of this name.
@@ -27,9 +29,9 @@ PIPE = "PIPE"
 WAITING = {"rmtd": ("--listen", "127.0.0.1:0"), "rdump": ("dates", "--file", PIPE), "rsim": (PIPE,)}
 
 
-def is_new(program: Path, name: str) -> bool:
-    """Whether a program was built since its sources were changed, as far as the files' times tell."""
-    return program.is_file() and program.stat().st_mtime >= max(map(newest, below(listed(), [name]).values()))
+def sources_of(name: str) -> str:
+    """The checksum of what a program is compiled from."""
+    return sums_of(below(listed(), [name]))[name]
 
 
 def running_below(folder: Path) -> Path | None:
@@ -64,27 +66,31 @@ def compile_to(name: str, folder: Path, to: Path) -> str | None:
 
 def unproved(name: str) -> Path:
     """A program that was compiled without its proofs from the sources as they are."""
-    program = TRIED / name
-    if is_new(program, name):
+    program, sources = TRIED / name, sources_of(name)
+    made, told = program.with_suffix(".new"), program.with_suffix(".sources")
+    if program.is_file() and told.is_file() and told.read_text() == sources:
         return program
     TRIED.mkdir(parents=True, exist_ok=True)
-    made = program.with_suffix(".new")
     with tempfile.TemporaryDirectory(prefix="unproved-") as folder:
         said = compile_to(name, Path(folder), made)
     if said is not None:
         sys.exit(f"`rt try` made no program of {name}:\n{said[-4000:]}")
     made.chmod(0o755)
+    told.unlink(missing_ok=True)
     made.rename(program)
+    told.write_text(sources)
     return program
 
 
 def main() -> int:
-    parser = argparse.ArgumentParser(description="Compiles a program without its proofs.")
-    parser.add_argument("program", choices=WAITING)
-    name = parser.parse_args().program
-    print(f"{name} is compiled without its proofs, in a minute or two.", flush=True)
-    program = unproved(name)
-    print(f"{program.relative_to(TOP)}: UNPROVED. It is for trying alone: `make build` proves and builds what is to be relied on.")
+    parser = argparse.ArgumentParser(description="Compiles programs without their proofs.")
+    parser.add_argument("program", choices=WAITING, nargs="+")
+    names = parser.parse_args().program
+    print(f"{', '.join(names)}: compiled without proofs, in a minute or two.", flush=True)
+    with ThreadPoolExecutor(checks_at_once()) as pool:
+        for program in pool.map(unproved, names):
+            told = program.relative_to(TOP)
+            print(f"{told}: UNPROVED. It is for trying alone: `make build` proves and builds what is to be relied on.", flush=True)
     return 0
 
 

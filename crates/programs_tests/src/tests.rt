@@ -1,22 +1,11 @@
-//! Dumps, volumes that are read back, operations and dumpdates files, against values worked out by
-//! hand.
+//! Commands, a peer in memory and exit statuses, against values worked out by hand.
 
-mod checkpoints;
+mod checkpoint_files;
 mod commands;
-mod compared;
-mod dates;
-mod entering;
-mod fake;
+mod exit_codes;
 mod fixture;
-mod lines;
-mod listing;
-mod looks;
 mod memory_peer;
-mod operations;
-mod payload;
 mod restored_stack;
-mod store;
-mod volumes;
 
 use std::process::Abort;
 

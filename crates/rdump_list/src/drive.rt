@@ -6,8 +6,9 @@ use crate::drive_reel::{DriveEntries, DriveReel, read_drive};
 use crate::reel::{ListedReel, Source};
 use crate::sums::compare;
 use printable::plain;
-use rdump_net::{ReadFault, SocketPeer};
+use rdump_net::{ReadFault, SocketPeer, VolumeRequest};
 use reel_check::ReelContents;
+use refusals::{Refusal, RefusedRequest};
 use std::alloc::AllocError;
 use std::io::Write;
 use std::time::Duration;
@@ -38,7 +39,7 @@ pub(crate) fn drive_reel<R: ListSystem, T: Write + Drop>(
         }
         Err(ReadFault::OutOfMemory) => Err(AllocError),
         Err(fault) => {
-            report_fault(rt, to, fault, &peer);
+            report_fault(rt, to, device, fault, &peer);
             Ok(None)
         }
     }
@@ -74,11 +75,27 @@ fn reel_of<R: ListSystem>(
 }
 
 /// Prints why there is no session with the server at the address `to`, with the system's reason if
-/// there is one.
-fn report_fault<R: ListSystem>(rt: &R, to: &str, fault: ReadFault, peer: &SocketPeer<'_, R>) {
+/// there is one. After a refused open also prints what that means for this drive.
+fn report_fault<R: ListSystem>(
+    rt: &R,
+    to: &str,
+    device: &str,
+    fault: ReadFault,
+    peer: &SocketPeer<'_, R>,
+) {
     let to = plain(to);
     let _ = match (fault, peer.failure()) {
         (ReadFault::ConnectionEnded, Some(error)) => eprintln!(rt; "rdump: {to}: {error}"),
+        (
+            ReadFault::Refused {
+                asked: VolumeRequest::Open,
+                number,
+            },
+            _,
+        ) => {
+            let refusal = Refusal::new(RefusedRequest::Open, number, device);
+            eprintln!(rt; "rdump: {to}: {fault}: {refusal}")
+        }
         _ => eprintln!(rt; "rdump: {to}: {fault}"),
     };
 }

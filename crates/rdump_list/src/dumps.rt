@@ -6,15 +6,15 @@ use crate::printer::Printer;
 use crate::reel::ListedReel;
 use crate::verdict::push_count;
 use dumpdates::{Dates, DatesFault, Entry};
+use named_files::{ZonedLine, read_named};
 use printable::plain;
 use std::alloc::{AllocError, Global};
-use std::fs;
 use std::io::Write;
 
 /// Reads the dumpdates file at this path. If it cannot be read or is not valid, it prints why and
 /// returns None. Fails if an allocation fails.
 pub(crate) fn read_dates<R: ListSystem>(rt: &R, path: &str) -> Result<Option<Dates>, AllocError> {
-    let bytes = match fs::read(rt, path) {
+    let bytes = match read_named(rt, rt.alloc(), path) {
         Ok(bytes) => bytes,
         Err(error) => {
             report(rt, path, error)?;
@@ -25,8 +25,12 @@ pub(crate) fn read_dates<R: ListSystem>(rt: &R, path: &str) -> Result<Option<Dat
         Ok(dates) => Ok(Some(dates)),
         Err(DatesFault::OutOfMemory) => Err(AllocError),
         Err(fault) => {
+            let zoned = ZonedLine::find(rt.alloc(), &bytes, fault);
             let path = plain(path);
             let _ = eprintln!(rt; "rdump: {path}: {fault}");
+            if let Some(line) = zoned {
+                let _ = eprintln!(rt; "rdump: {path}: {line}");
+            }
             Ok(None)
         }
     }

@@ -5,9 +5,18 @@
 //! in place, and the first reel of a drive's stack over a connection. It writes to neither.
 //! `push_verdict` appends the verdict on a reel, and `is_whole` decides whether that is `whole`.
 //! With a sums file, `run_ls` also compares the SHA-256 of each whole reel with the lines of its
-//! volume.
+//! volume. `compare_reel` does so with a record file.
+//!
+//! # Contracts
+//!
+//! The *verdict* on a reel is a text that says what the reel holds. A *sums file* has lines, and
+//! each line contains the label of a volume and the SHA-256 of the volume's record file.
+//! `compare_reel` compares the SHA-256 of a reel with the lines that have the label of the reel's
+//! volume. The result is a `SumVerdict`. It is `Equal` if one of these lines has the SHA-256, and
+//! `Differs` if none has it. If no line has the label, the result is `Unknown`.
 #![tactic(auto)]
 
+mod compared_reel;
 mod drive;
 mod drive_reel;
 mod dump_found;
@@ -17,6 +26,7 @@ mod folder;
 mod line;
 mod list_command;
 mod lister;
+mod mark_limit;
 mod order;
 mod printer;
 mod progress;
@@ -29,6 +39,7 @@ mod system;
 mod undetermined;
 mod verdict;
 
+pub use compared_reel::compare_reel;
 pub use list_command::run_ls;
 pub use system::ListSystem;
 pub use verdict::{is_whole, push_verdict};

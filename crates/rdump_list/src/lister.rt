@@ -2,13 +2,15 @@
 //!
 //! A plain file is a regular file.
 use crate::ListSystem;
+use crate::compared_reel::compare_reel;
 use crate::fault::{print_fault, report};
 use crate::folder::names_in;
+use crate::mark_limit::MarkLimit;
 use crate::progress::ListProgress;
 use crate::reel::{ListedReel, Source};
 use crate::shown_medium::ShownMedium;
+use crate::undetermined::Undetermined;
 use file_medium::FileMedium;
-use rdump_sums::compare_reel;
 use reel_check::{ReelContents, check_reel};
 use std::alloc::AllocError;
 use std::fs::{self, File};
@@ -21,6 +23,17 @@ const ROOM: usize = 65536;
 
 /// The message for a path that is neither a plain file nor a folder.
 const NO_FILE: &str = "it is no plain file and no folder";
+
+/// What was found in a record file.
+#[derive(Drop)]
+struct ReelFound {
+    /// What it contains.
+    contents: ReelContents,
+    /// What the comparison of its sum found, if it was compared.
+    sum: Option<SumVerdict>,
+    /// Its source for the line: a file, or why its contents are not determined.
+    source: Source,
+}
 
 /// Reads record files, one after the other, and collects what they contain.
 #[derive(Drop)]
@@ -113,7 +126,7 @@ impl<'a, R: ListSystem, W: Write + Drop> Lister<'a, R, W> {
     /// Reads the plain file at this path.
     fn read_file(&mut self, path: &str) -> Result<(), AllocError> {
         match self.contents_of(path) {
-            Ok(Some((contents, sum))) => self.keep(path, contents, sum),
+            Ok(Some(found)) => self.keep(path, found),
             Ok(None) => {
                 self.print_fault(path, "it could not be read");
                 Ok(())
@@ -125,16 +138,13 @@ impl<'a, R: ListSystem, W: Write + Drop> Lister<'a, R, W> {
     /// Returns what the plain file at this path contains, and what the comparison of its sum found.
     /// Returns None if the system failed while it was read. Fails if it cannot be opened or is no
     /// plain file.
-    fn contents_of(
-        &mut self,
-        path: &str,
-    ) -> io::Result<Option<(ReelContents, Option<SumVerdict>)>> {
+    fn contents_of(&mut self, path: &str) -> io::Result<Option<ReelFound>> {
         let file = File::open(self.rt, path)?;
         if !file.metadata()?.is_file() {
             return Err(io::Error::new(ErrorKind::InvalidInput, NO_FILE));
         }
         let mut shown = ShownMedium {
-            medium: FileMedium::new(file),
+            medium: MarkLimit::new(FileMedium::new(file)),
             progress: self.progress.take(),
         };
         if let Some(progress) = &mut shown.progress {
@@ -142,7 +152,14 @@ impl<'a, R: ListSystem, W: Write + Drop> Lister<'a, R, W> {
         }
         let found = check(&mut shown, &mut self.room, self.sums);
         self.progress = shown.progress;
-        Ok(found.ok())
+        let source = source_of(shown.medium.is_over());
+        Ok(
+            found.ok().map(|(contents, sum)| ReelFound {
+                contents,
+                sum,
+                source,
+            }),
+        )
     }
 
     /// Clears the line of progress.
@@ -153,17 +170,17 @@ impl<'a, R: ListSystem, W: Write + Drop> Lister<'a, R, W> {
     }
 
     /// Adds a record file with its contents to the list.
-    fn keep(
-        &mut self,
-        path: &str,
-        contents: ReelContents,
-        sum: Option<SumVerdict>,
-    ) -> Result<(), AllocError> {
+    fn keep(&mut self, path: &str, found: ReelFound) -> Result<(), AllocError> {
+        let ReelFound {
+            contents,
+            sum,
+            source,
+        } = found;
         let path = String::from_str(self.rt.alloc(), path)?;
         self.reels.push(ListedReel {
             path,
             contents,
-            source: Source::File,
+            source,
             sum,
         })?;
         Ok(())
@@ -182,6 +199,15 @@ impl<'a, R: ListSystem, W: Write + Drop> Lister<'a, R, W> {
         self.has_failed = true;
         self.clear();
         report(self.rt, path, error)
+    }
+}
+
+/// Returns the source of a record file, which has too many marks in a row if `is_over`.
+fn source_of(is_over: bool) -> Source {
+    if is_over {
+        Source::Undetermined(Undetermined::TooManyMarks)
+    } else {
+        Source::File
     }
 }
 

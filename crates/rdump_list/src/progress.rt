@@ -1,6 +1,6 @@
 //! Shows how far a list of reels is.
 use crate::ListSystem;
-use rdump_files::{LiveLine, LiveText};
+use printable::{LiveLine, LiveText};
 use std::fmt::Write as _;
 use std::io::Write;
 

@@ -12,8 +12,8 @@ pub(crate) enum Source {
     /// A drive. Its bytes are not known, and if it is no volume, its records and marks are not all
     /// counted.
     Drive,
-    /// A drive, but the contents could not be determined for this reason. They are what was read
-    /// until then.
+    /// A drive or a record file, but the contents could not be determined for this reason. They are
+    /// what was read until then.
     Undetermined(Undetermined),
 }
 

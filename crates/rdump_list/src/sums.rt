@@ -3,17 +3,17 @@ use crate::ListSystem;
 use crate::fault::report;
 use crate::verdict::is_whole;
 use dump_run::VolumeLabel;
+use named_files::read_named;
 use printable::plain;
 use reel_check::{Holding, ReelContents};
 use std::alloc::AllocError;
-use std::fs;
 use sum_lines::{SumVerdict, Sums, SumsFault};
 use volume_sum::EntryHasher;
 
 /// Reads the sums file at this path. If it cannot be read or is not valid, it prints why and
 /// returns None. Fails if an allocation fails.
 pub(crate) fn read_sums<R: ListSystem>(rt: &R, path: &str) -> Result<Option<Sums>, AllocError> {
-    let bytes = match fs::read(rt, path) {
+    let bytes = match read_named(rt, rt.alloc(), path) {
         Ok(bytes) => bytes,
         Err(error) => {
             report(rt, path, error)?;

@@ -1,4 +1,4 @@
-//! Why the contents of a reel on a drive could not be determined.
+//! Why the contents of a reel could not be determined.
 use crate::verdict::push_count;
 use std::alloc::AllocError;
 
@@ -13,7 +13,7 @@ pub(crate) enum DriveRequest {
     Spacing,
 }
 
-/// Why the contents of a reel on a drive could not be determined.
+/// Why the contents of a reel could not be determined.
 #[derive(Clone, Copy)]
 pub(crate) enum Undetermined {
     /// No record was read, and spacing over a mark was refused: the reel may be empty, or the
@@ -23,6 +23,8 @@ pub(crate) enum Undetermined {
     Refused { asked: DriveRequest, number: u32 },
     /// The reel has more records than one request can space over.
     TooManyRecords,
+    /// The reel has more marks in a row than any reel of a drive.
+    TooManyMarks,
 }
 
 impl Undetermined {
@@ -38,6 +40,7 @@ impl Undetermined {
                 push_count(text, b" was answered with E", u64::from(number), b"")
             }
             Undetermined::TooManyRecords => text.extend_from_slice(b"it has too many records"),
+            Undetermined::TooManyMarks => text.extend_from_slice(b"it has too many marks"),
         }
     }
 }

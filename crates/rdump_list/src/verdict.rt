@@ -1,5 +1,6 @@
 //! The verdict on a reel, in words.
 ghost use Rattle.std.specs.Prelude.{◌≡◌, ◌++◌, ◌↔◌, IsTrue, OnOk, codes, decimal};
+ghost use Rattle.reel_check.specs.declared.holding.VolumeEnd.TheVariants.{OneMark};
 ghost use Rattle.rdump_list.specs.Verdict as spec;
 ghost use Rattle.rdump_list.specs.Verdict.{IsWhole, volume_verdict, holding_verdict, is_end, tail_verdict, verdict_of};
 
@@ -30,8 +31,7 @@ pub fn is_whole(contents: &ReelContents) -> bool
 pub fn push_verdict(text: &mut Vec<u8>, contents: &ReelContents) -> Result<(), AllocError>
     // Appends the verdict on a reel: `whole`, `empty`, `no mark: N whole blocks`, `more after the
     // mark` or `not a volume of rdump`. If N bytes follow the last readable entry, `tail of N
-    // bytes` replaces the verdicts `whole` and `empty`, and follows any other verdict. The call
-    // appends an incomplete verdict only if an allocation fails.
+    // bytes` replaces the verdicts `whole` and `empty`, and follows any other verdict.
     ensures { OnOk result (text.new.items ≡ text.old.items ++ verdict_of contents.now) }
 {
     if contents.tail == 0 {
@@ -67,8 +67,9 @@ fn tail_replaces(holding: &Holding) -> bool
 }
 
 /// Whether exactly one mark and nothing else follows the blocks of a volume.
-fn is_one_mark(end: VolumeEnd) -> bool
-    ensures { result ≡ is_end end }
+pub(crate) fn is_one_mark(end: VolumeEnd) -> bool
+    ensures value { result ≡ is_end end }
+    ensures one { IsTrue result ↔ (end ≡ OneMark) }
 {
     match end {
         VolumeEnd::NoMark => false,

@@ -1,9 +1,8 @@
 -- In reading order: Counted (the line of a counted volume); Entering (a line is entered in a sums
--- file); ComparedReel (a record file is compared). Then Comparing and SinkLends (a sink that
--- compares volumes), and ComparedVolume (what its calls mean together).
+-- file). Then Comparing and SinkLends (a sink that compares volumes), and ComparedVolume (what its
+-- calls mean together).
 pub mod Counted
 pub mod Entering
-pub mod ComparedReel
 pub mod Comparing
 pub mod SinkLends
 pub mod ComparedVolume

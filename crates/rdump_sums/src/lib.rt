@@ -1,8 +1,7 @@
 //! The sums of the volumes that a dump writes or a restore reads.
 //!
 //! `sum_line_of` makes the line of a counted volume, and `enter_sum` enters a line in a sums file.
-//! `compare_reel` compares a record file with the lines of a sums file. `ComparedSink` is a sink of
-//! a restore that does so with each volume that is read.
+//! `ComparedSink` is a sink of a restore that compares each volume with the lines of a sums file.
 //!
 //! # Contracts
 //!
@@ -22,13 +21,11 @@
 //! sum. The verdict is `Unknown` if no line has the label.
 #![tactic(auto)]
 
-mod compared_reel;
 mod compared_sink;
 mod counted_line;
 mod laws;
 mod sums_update;
 
-pub use compared_reel::compare_reel;
 pub use compared_sink::ComparedSink;
 pub use counted_line::sum_line_of;
 pub use laws::compared_volume;

@@ -2,10 +2,10 @@
 //! server.
 
 use super::check_row;
-use super::fixture::{TWO_BYTES, client, line};
-use super::store::OLD;
+use super::exit_codes::DATES;
+use super::fixture::client;
 use exit_status::ExitStatus;
-use rdump_args::{MtLine, ReadLine};
+use rdump_args::{DumpLine, MtLine, ReadLine};
 use rdump_commands::{rdump, run_arguments, run_client, run_dates, run_dump, run_mt, run_read};
 use std::fs;
 use std::io::Stderr;
@@ -13,10 +13,10 @@ use std::os::unix::fs::symlink;
 use std::test::Fail;
 
 /// No terminal on which progress would be shown.
-const NO_TERMINAL: Option<Stderr> = None;
+pub(super) const NO_TERMINAL: Option<Stderr> = None;
 
 /// An address without a server.
-const NOWHERE: &str = "127.0.0.1:1";
+pub(super) const NOWHERE: &str = "127.0.0.1:1";
 
 /// Arguments, and the exit status of `rdump`.
 type Row = (&'static [&'static str], ExitStatus);
@@ -58,24 +58,42 @@ fn arguments_of_another_program(rt: HostRuntime) {
 
 #[test]
 fn a_dates_file(rt: HostRuntime) -> Result<(), Fail> {
-    fs::write(&rt, "asked", OLD)?;
+    fs::write(&rt, "asked", DATES)?;
     let status = run_dates(&rt, "asked", Some(("/usr", 2)));
     fs::remove_file(&rt, "asked")?;
     assert!(rt; status == ExitStatus::Success);
     Ok(())
 }
 
+/// A dump to an address without a server, of a payload that does not exist.
+static DUMP: DumpLine<'static> = DumpLine {
+    to: NOWHERE,
+    device: "/dev/st0",
+    timeout: None,
+    fs: "/usr",
+    level: 1,
+    payload: "payload",
+    block: 2,
+    dumpdates: "dumpdates",
+    date: None,
+    checkpoint: None,
+    sums: None,
+    update: true,
+    protect: false,
+};
+
 #[test]
 fn a_payload_that_is_not_there(rt: HostRuntime) {
-    assert!(rt; run_dump(&rt, &line(TWO_BYTES), NO_TERMINAL) == ExitStatus::StartupError);
+    assert!(rt; run_dump(&rt, &DUMP, NO_TERMINAL) == ExitStatus::StartupError);
 }
 
 /// Whether a dump ends with `Abnormal`, because there is no server and the operator's input is
 /// empty.
 fn is_abandoned(rt: &HostRuntime) -> bool {
-    match client(rt.alloc(), TWO_BYTES) {
-        Some(mut client) => run_client(rt, &line(TWO_BYTES), &mut client, NO_TERMINAL)
-            == ExitStatus::Abnormal,
+    match client(rt.alloc()) {
+        Some(mut client) => {
+            run_client(rt, &DUMP, &mut client, NO_TERMINAL) == ExitStatus::Abnormal
+        }
         None => false,
     }
 }

@@ -1,22 +1,23 @@
-//! A peer in memory: a request that arrives in pieces, sessions that end, and a volume that is
-//! written.
+//! A peer in memory: a request that arrives in pieces, sessions that end, an operation, and a volume
+//! that is written.
 
 ghost use Rattle.std.specs.Prelude.{◌≡◌, ◌≤◌, length};
 
-use super::fixture::{DEVICE, PayloadDumper, client};
+use super::fixture::{DEVICE, Dumper, client};
 use drives::{DriveTable, ListStacks, LocalHolds, Stacks};
 use rdump_net::Peer;
-use rmt_tools::{MemoryPeer, dump};
+use rmt_tools::{MemoryPeer, dump, mt};
 use rmt_wire::Counted;
+use rmt_wire::mtio::MTREW;
 use std::alloc::Global;
 use std::test::Fail;
 
-/// The capacity in bytes of a reel that a label, two blocks of four bytes and the mark fill
+/// The capacity in bytes of a reel that a label, three blocks of two bytes and the mark fill
 /// exactly.
-const TWO_BLOCKS: u64 = 1060;
+const THREE_BLOCKS: u64 = 1066;
 
 /// What a dump to that reel prints.
-const DUMPED: &[u8] = b"volume 1: 2 blocks from 0\ndump complete: 1 volumes, 2 blocks\n";
+const DUMPED: &[u8] = b"volume 1: 3 blocks from 0\ndump complete: 1 volumes, 3 blocks\n";
 
 /// Whether a request that arrives in pieces gets its reply.
 fn takes_pieces(peer: &mut MemoryPeer) -> bool {
@@ -58,17 +59,32 @@ fn begins_anew(peer: &mut MemoryPeer) -> bool {
     count == 23 && room == *b"E9\nBad file descriptor\n\0" && !peer.send(b"C\n")
 }
 
+/// Whether an operation rewinds the reel, and its reply is printed.
+fn is_rewound(alloc: Global, peer: &mut MemoryPeer) -> bool {
+    let mut room = [0; 3];
+    let mut out = Counted::new(room.as_mut_slice());
+    mt(alloc, peer, DEVICE, MTREW, 1, &mut out) == 0 && room == *b"A1\n"
+}
+
+/// Whether an operation on a drive that does not exist prints the refusal, and has status 3.
+fn is_refused(alloc: Global, peer: &mut MemoryPeer) -> bool {
+    let mut room = [0; 29];
+    let mut out = Counted::new(room.as_mut_slice());
+    let status = mt(alloc, peer, b"/dev/st1", MTREW, 1, &mut out);
+    status == 3 && room == *b"E2 No such file or directory\n"
+}
+
 /// Whether this client writes its one volume.
-fn is_dumped(alloc: Global, client: &mut PayloadDumper, peer: &mut MemoryPeer) -> bool {
+fn is_dumped(alloc: Global, client: &mut Dumper, peer: &mut MemoryPeer) -> bool {
     let mut operator: &[u8] = b"";
     let mut room = [0; 61];
     let mut out = Counted::new(room.as_mut_slice());
     dump(alloc, client, peer, &mut operator, &mut out) == 0 && room.as_slice() == DUMPED
 }
 
-/// Whether a client of two blocks writes its one volume.
+/// Whether a client of three blocks writes its one volume.
 fn takes_a_dump(alloc: Global, peer: &mut MemoryPeer) -> bool {
-    match client(alloc, 4) {
+    match client(alloc) {
         Some(mut client) => is_dumped(alloc, &mut client, peer),
         None => false,
     }
@@ -78,7 +94,8 @@ fn takes_a_dump(alloc: Global, peer: &mut MemoryPeer) -> bool {
 /// its drives.
 fn goes_on(alloc: Global, mut peer: MemoryPeer) -> bool {
     let ended = takes_pieces(&mut peer) && closes(&mut peer) && begins_anew(&mut peer);
-    let dumped = ended && takes_a_dump(alloc, &mut peer);
+    let asked = is_rewound(alloc, &mut peer) && is_refused(alloc, &mut peer);
+    let dumped = ended && asked && takes_a_dump(alloc, &mut peer);
     let good = dumped && peer.stacks().bin().len() == 1;
     peer.into_drives().stacks.bin().len() == 1 && good
 }
@@ -88,7 +105,7 @@ fn add_drive(stacks: &mut ListStacks) -> bool
     requires { length stacks.old.library.drives ≡ 0 }
     ensures { length stacks.new.library.drives ≤ 1 }
 {
-    stacks.add_drive(DEVICE).is_ok() && stacks.add_reel(0, b"r1", TWO_BLOCKS).is_ok()
+    stacks.add_drive(DEVICE).is_ok() && stacks.add_reel(0, b"r1", THREE_BLOCKS).is_ok()
 }
 
 /// Runs `goes_on` with a peer of that drive.

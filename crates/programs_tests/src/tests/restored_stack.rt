@@ -1,10 +1,10 @@
 //! A dump whose reels are read back from a stack in memory.
 ghost use Rattle.std.specs.Prelude.{◌≡◌, ◌≤◌, IfSome, length};
 
-use super::fixture::{DEVICE, TWO_BYTES, client};
+use super::fixture::{DEVICE, client};
 use drives::{DriveTable, ListStacks, LocalHolds, Stacks};
 use rdump_net::{ReadFault, VolumeRequest};
-use rmt_tools::{FileSink, MemoryFile, MemoryPeer, dump, restore_stack};
+use rmt_tools::{FileSink, MemoryFile, MemoryPeer, dump, read_volume, restore_stack};
 use rmt_wire::Counted;
 use rmt_wire::errno::ENXIO;
 use std::alloc::Global;
@@ -13,10 +13,11 @@ use std::test::Fail;
 /// The capacity in bytes of a reel that a label, two blocks of two bytes and the mark fill.
 const TWO_BLOCKS: u64 = 1056;
 
-/// The reels, in both orders.
-const FIRST_ONE_FIRST: &[&[u8]] = &[b"r1", b"r2"];
+/// The reels, in an order in which they lie on the stack, and the blocks of the first of them.
+type Row = (&'static [&'static [u8]], &'static [u8]);
 
-const LAST_ONE_FIRST: &[&[u8]] = &[b"r2", b"r1"];
+/// Both orders.
+static ROWS: [Row; 2] = [(&[b"r1", b"r2"], b"abcd"), (&[b"r2", b"r1"], b"ef")];
 
 /// Dumps `abcdef` in blocks of two bytes, as two volumes. Returns the drives, whose reels are then
 /// in the bin.
@@ -26,7 +27,7 @@ fn dumped(alloc: Global, mut peer: MemoryPeer) -> Option<DriveTable<LocalHolds, 
     let mut operator: &[u8] = b"";
     let mut room = [0; 128];
     let mut out = Counted::new(room.as_mut_slice());
-    let status = match client(alloc, TWO_BYTES) {
+    let status = match client(alloc) {
         Some(mut client) => dump(alloc, &mut client, &mut peer, &mut operator, &mut out),
         None => 3,
     };
@@ -36,6 +37,17 @@ fn dumped(alloc: Global, mut peer: MemoryPeer) -> Option<DriveTable<LocalHolds, 
     } else {
         None
     }
+}
+
+/// Whether the volume of the first reel is read, with its label, and the reel stays on the stack.
+fn is_first_read(alloc: Global, peer: &mut MemoryPeer, blocks: &[u8]) -> bool {
+    let mut file = Vec::new(alloc);
+    let mut label = Vec::new(alloc);
+    let mut out = Counted::new(&mut file);
+    let mut printed = Counted::new(&mut label);
+    let status = read_volume(alloc, peer, DEVICE, &mut out, &mut printed);
+    let is_read = file.as_slice() == blocks && label.starts_with(b"name /usr\nlevel 1\n");
+    status == 0 && is_read && peer.stacks().bin().is_empty()
 }
 
 /// Whether the volumes of this stack are read back into a file that has other bytes, and their
@@ -54,20 +66,23 @@ fn is_restored(alloc: Global, mut peer: MemoryPeer) -> Option<bool> {
     Some(read == Ok(()) && are_taken && is_same && more == Err(ended))
 }
 
-/// Lays these reels on the stack, and reads them back.
+/// Lays these reels on the stack. Reads the first one, and then all of them.
 fn is_read_back(
     alloc: Global,
     mut drives: DriveTable<LocalHolds, ListStacks>,
-    names: &[&[u8]],
+    row: &Row,
 ) -> Option<bool>
     requires { length drives.stacks.library.drives ≤ length drives.holds.numbers }
 {
+    let (names, blocks) = *row;
     let drive = drives.stacks.drive(DEVICE)?;
     if !drives.stacks.can_arrange(drive, names) {
         return None;
     }
     drives.stacks.arrange(drive, names).ok()?;
-    is_restored(alloc, MemoryPeer::new(alloc, drives)?)
+    let mut peer = MemoryPeer::new(alloc, drives)?;
+    let is_read = is_first_read(alloc, &mut peer, blocks);
+    Some(is_restored(alloc, peer)? && is_read)
 }
 
 /// Adds the drive `/dev/st0` with two reels.
@@ -81,7 +96,7 @@ fn add_drive(stacks: &mut ListStacks) -> bool
 }
 
 /// Dumps, lays the reels on the stack in this order, and reads them back.
-fn goes(alloc: Global, holds: LocalHolds, names: &[&[u8]]) -> Option<bool>
+fn goes(alloc: Global, holds: LocalHolds, row: &Row) -> Option<bool>
     requires { length holds.numbers ≡ 1 }
 {
     let mut stacks = ListStacks::new(alloc);
@@ -89,14 +104,14 @@ fn goes(alloc: Global, holds: LocalHolds, names: &[&[u8]]) -> Option<bool>
         return None;
     }
     let peer = MemoryPeer::new(alloc, DriveTable { holds, stacks })?;
-    is_read_back(alloc, dumped(alloc, peer)?, names)
+    is_read_back(alloc, dumped(alloc, peer)?, row)
 }
 
 #[test]
 fn a_stack_is_read_back(rt: HostRuntime) -> Result<(), Fail> {
-    for names in [FIRST_ONE_FIRST, LAST_ONE_FIRST] {
+    for row in &ROWS {
         let holds = LocalHolds::new(rt.alloc(), 1)?;
-        assert!(rt; goes(rt.alloc(), holds, names) == Some(true));
+        assert!(rt; goes(rt.alloc(), holds, row) == Some(true));
     }
     Ok(())
 }

@@ -1,6 +1,6 @@
 use Rattle.std.proofs.Common.{[], ◌≡◌, ◌++◌, length, sym, ap, ap₂, ◌∙◌, refl, true, append-nil, arith}
 use Rattle.std.proofs.Output.{has_written_append, has_written_of_eq, writes_in_calls_nil}
-use Rattle.printable.specs.Printing.{mark_of, plain_text, printable, printable_within}
+use Rattle.printable.specs.Printing.{mark_of, plain_text, printable_within}
 use Rattle.printable.proofs.Chunks.{IsSplit, printable-next, printable-nil}
 use Rattle.printable.proofs.text.write_bytes.Goals as goal
 

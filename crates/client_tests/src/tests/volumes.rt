@@ -5,9 +5,9 @@ use super::check_row;
 use super::fake::{FakePeer, Replies};
 use super::fixture::DEVICE;
 use rdump_net::{
-    AfterVolume, CallFault, ReadFault, SinkStopped, Verdict, VolumeRequest, VolumeSink, copy_volume,
+    AfterVolume, CallFault, ReadFault, SinkStopped, Verdict, VolumeRequest, VolumeSink,
+    copy_volume, read_volume,
 };
-use rmt_tools::read_volume;
 use rmt_wire::Counted;
 use std::alloc::Global;
 use std::io::Write;
@@ -32,7 +32,7 @@ fn is_read(alloc: Global, peer: &mut FakePeer) -> bool {
     let (mut file, mut text) = ([0; 5], [0; 3]);
     let mut out = Counted::new(file.as_mut_slice());
     let mut printed = Counted::new(text.as_mut_slice());
-    let status = read_volume(alloc, peer, DEVICE, &mut out, &mut printed);
+    let status = read_volume(alloc, peer, DEVICE, &mut out, &mut printed).code();
     status == 0 && text == *b"one" && file == *b"abcde"
 }
 

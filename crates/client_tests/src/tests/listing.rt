@@ -3,7 +3,8 @@
 
 use super::check_row;
 use rdump_args::{ListLine, ListedReels};
-use rmt_tools::{check_reel, is_whole, push_verdict, run_ls};
+use rdump_list::{is_whole, push_verdict, run_ls};
+use reel_check::check_reel;
 use std::alloc::{AllocError, Global};
 use std::fs;
 use std::io::Stderr;

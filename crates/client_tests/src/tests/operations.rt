@@ -3,7 +3,7 @@
 use super::check_row;
 use super::fake::{FakePeer, Replies};
 use super::fixture::DEVICE;
-use rmt_tools::mt;
+use rdump_net::mt;
 use rmt_wire::Counted;
 use std::alloc::Global;
 
@@ -69,7 +69,7 @@ fn prints(alloc: Global, peer: &mut FakePeer, row: &Row) -> bool {
     let (op, _, _, wanted, status) = *row;
     let mut printed = Vec::new(alloc);
     let mut out = Counted::new(&mut printed);
-    let told = mt(alloc, peer, DEVICE, u32::from(op), 1, &mut out);
+    let told = mt(alloc, peer, DEVICE, u32::from(op), 1, &mut out).code();
     told == status && printed.as_slice() == wanted
 }
 

@@ -1,15 +1,15 @@
 //! Compares a record file with the lines of a sums file.
-ghost use Rattle.std.specs.Prelude.{◌≡◌, ◌<◌, ◌↔◌, List, ℕ, IfOk, IfSome, IsNone, IsTrue, OnErr, OnOk, length};
+ghost use Rattle.std.specs.Prelude.{◌≡◌, ◌<◌, List, ℕ, IfOk, IfSome, IsNone, OnErr, OnOk, length};
 ghost use Rattle.tape.specs.Tape.{PlainEntry};
 ghost use Rattle.tape.specs.Failures.{HasRisen, Steps};
 ghost use Rattle.tape.specs.RecordFile.{SpellsReel};
 ghost use Rattle.reel_check.specs.Contents.{IsContents};
 ghost use Rattle.dump_run.specs.Label.{PlainLabel};
-ghost use Rattle.reel_check.specs.declared.holding.VolumeEnd.TheVariants.{OneMark};
-ghost use Rattle.rdump_sums.specs.ComparedReel.{IsReelCompared, IsWholeVolume};
+ghost use Rattle.rdump_list.specs.ComparedReel.{IsReelCompared, IsWholeVolume};
 
+use crate::verdict::is_one_mark;
 use dump_run::VolumeLabel;
-use reel_check::{Holding, ReelContents, VolumeEnd, check_reel};
+use reel_check::{Holding, ReelContents, check_reel};
 use sum_lines::{SumVerdict, Sums};
 use tape::{Medium, MediumFailed};
 use volume_sum::medium_sum;
@@ -29,9 +29,9 @@ pub fn compare_reel<M: Medium>(
 ) -> Result<(ReelContents, Option<SumVerdict>), MediumFailed>
     requires { 0 < length room.old }
     // The following promises hold if the medium's contract says which bytes the reel contains. If
-    // the call succeeds, it returns what `check_reel` returns. The call also returns a verdict if
-    // and only if the reel is a whole volume with one mark and no bytes after the mark. For the
-    // verdict, the call compares the SHA-256 of all bytes of the reel with the lines for the
+    // the call succeeds, it returns what `check_reel` returns. The call also returns a `SumVerdict`
+    // if and only if the reel is a whole volume with one mark and no bytes after the mark. For the
+    // `SumVerdict`, the call compares the SHA-256 of all bytes of the reel with the lines for the
     // volume's label.
     ensures compared { (bytes : List ℕ) (entries : List PlainEntry) → M.holds medium.old bytes → SpellsReel bytes entries →
         IfOk result (λ found. IsContents found.0 bytes entries × IsReelCompared sums.now bytes found.0 found.1) }
@@ -69,11 +69,4 @@ fn whole_label(contents: &ReelContents) -> Option<&VolumeLabel>
         }
         _ => None,
     }
-}
-
-/// Whether exactly one mark and nothing else follows the blocks of a volume.
-fn is_one_mark(end: VolumeEnd) -> bool
-    ensures { IsTrue result ↔ (end ≡ OneMark) }
-{
-    matches!(end, VolumeEnd::OneMark)
 }

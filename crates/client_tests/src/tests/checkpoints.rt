@@ -7,14 +7,11 @@ use super::fixture::{Hidden, PayloadDumper, TWO_BYTES, client, line, payload};
 use super::lines::{EMPTY, FULL, LAST};
 use dump_client::{Blocks, Client};
 use dump_run::{Checkpoint, Run, VolumeCount, push_checkpoint};
-use exit_status::ExitStatus;
-use rdump_commands::run_arguments;
 use rdump_files::{ReplacedFile, ResumedDumpFault, WholeFile, resume_dump, run_of};
 use rdump_net::{Conclusion, CountBook, Keeper, dump_booked, dump_kept};
 use rmt_wire::Counted;
 use std::alloc::Global;
 use std::fs;
-use std::io::Stderr;
 use std::test::Fail;
 
 /// A keeper in memory, which accepts `most` checkpoints. It keeps the text of the last, and counts
@@ -245,70 +242,6 @@ fn clients_that_come_back(rt: HostRuntime) {
     for (at, (text, wanted)) in TEXTS.iter().enumerate() {
         check_row(&rt, at, comes_back(rt.alloc(), text) == Some(*wanted));
     }
-}
-
-/// No terminal on which progress would be shown.
-const NO_TERMINAL: Option<Stderr> = None;
-
-/// A dump with a checkpoint, to an address without a server.
-static WORDS: [&str; 20] = [
-    "rdump",
-    "dump",
-    "--to",
-    "127.0.0.1:1",
-    "--device",
-    "/dev/st0",
-    "--fs",
-    "/usr",
-    "--level",
-    "1",
-    "--payload",
-    "payload-of-three",
-    "--block",
-    "2",
-    "--dumpdates",
-    "no-dumpdates",
-    "--date",
-    "951868800",
-    "--checkpoint",
-    "checkpoint",
-];
-
-/// A text whose counts are out of order.
-const TWICE: &[u8] =
-    b"rdump 1\ndevice /dev/st0\nfs /usr\nlevel 1\ndate 951868800\nsince 951782400\nblock 2\nblocks 3\ncounted 1 0 2\ncounted 1 0 2\n";
-
-/// The checkpoint file at the start, the exit status, and whether the file is there at the end.
-static STARTS: [(&[u8], ExitStatus, bool); 5] = [
-    (b"", ExitStatus::StartupError, true),
-    (TWICE, ExitStatus::StartupError, true),
-    (ANOTHER, ExitStatus::StartupError, true),
-    (ONE, ExitStatus::Abnormal, false),
-    (BOTH, ExitStatus::Success, false),
-];
-
-/// Whether a dump with such a file ends as the row says.
-fn starts_so(rt: &HostRuntime, text: &[u8], status: ExitStatus, stays: bool) -> Result<bool, Fail> {
-    fs::write(rt, "checkpoint", text)?;
-    let ended = run_arguments(rt, &WORDS, NO_TERMINAL);
-    let is_left = fs::exists(rt, "checkpoint")?;
-    if is_left {
-        fs::remove_file(rt, "checkpoint")?;
-    }
-    Ok(ended == status && is_left == stays)
-}
-
-/// A file that is not a checkpoint stays, and so does one of another dump. The checkpoint of an
-/// abandoned dump is removed, and so is that of a complete dump, without a server.
-#[test]
-fn dumps_from_a_checkpoint_file(rt: HostRuntime) -> Result<(), Fail> {
-    fs::write(&rt, "payload-of-three", b"abcdef")?;
-    for (at, (text, status, stays)) in STARTS.iter().enumerate() {
-        let right = starts_so(&rt, text, *status, *stays)?;
-        check_row(&rt, at, right);
-    }
-    fs::remove_file(&rt, "payload-of-three")?;
-    Ok(())
 }
 
 /// Whether a file that `one` holds is not read or replaced by `other`.

@@ -1,7 +1,7 @@
 //! Queries of a dumpdates file: what is printed, and the exit status.
 
 use super::check_row;
-use rmt_tools::dates;
+use rdump_files::dates;
 use rmt_wire::Counted;
 use std::alloc::Global;
 
@@ -75,7 +75,7 @@ fn prints(alloc: Global, row: &Row) -> bool {
     let (file, asked, wanted, status) = *row;
     let mut printed = Vec::new(alloc);
     let mut out = Counted::new(&mut printed);
-    let told = dates(alloc, file, asked, &mut out);
+    let told = dates(alloc, file, asked, &mut out).code();
     told == status && printed.as_slice() == wanted
 }
 

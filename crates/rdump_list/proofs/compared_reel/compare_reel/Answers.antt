@@ -2,9 +2,9 @@ use Rattle.std.proofs.Common.{◌≡◌, ◌∙◌, List, ℕ, Option, refl, sub
 use Rattle.sha2.specs.Sha256.{sha256}
 use Rattle.sum_lines.specs.Sums.{IsVerdict}
 use Rattle.sum_lines.specs.declared.verdict.SumVerdict.{SumVerdict}
-use Rattle.rdump_sums.specs.ComparedReel.{IsReelCompared}
-use Rattle.rdump_sums.proofs.compared_reel.compare_reel.Goals as goal
-use Rattle.rdump_sums.proofs.compared_reel.compare_reel.Goals.{in-Some+in_ok-medium_sum-in-Some, in-None+in_ok-check_reel-in-None}
+use Rattle.rdump_list.specs.ComparedReel.{IsReelCompared}
+use Rattle.rdump_list.proofs.compared_reel.compare_reel.Goals as goal
+use Rattle.rdump_list.proofs.compared_reel.compare_reel.Goals.{in-Some+in_ok-medium_sum-in-Some, in-None+in_ok-check_reel-in-None}
 
 pub returns-clause-compared : goal.returns-clause-compared
 returns-clause-compared g c = λ bytes entries holds spelled.

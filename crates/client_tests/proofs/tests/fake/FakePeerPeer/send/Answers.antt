@@ -2,7 +2,7 @@ use Rattle.std.proofs.Common.{Bool, true, false, ℕ, List, [], ◌∷◌, map, 
 use Rattle.rdump_net.specs.Peer.{AreBytesSent}
 use Rattle.rdump_net.specs.declared.peer.Passed.{Passed}
 use Rattle.rdump_net.specs.declared.peer.Passed.TheVariants.{Sent, Ended}
-use Rattle.programs_tests.proofs.tests.fake.FakePeerPeer.send.Goals as goal
+use Rattle.client_tests.proofs.tests.fake.FakePeerPeer.send.Goals as goal
 
 -- what may have been passed to a peer: all bytes, or none of them and an end
 some_sent : (bytes : List ℕ) (whole : Bool) → (passed : List Passed) × AreBytesSent bytes whole passed

@@ -1,0 +1,10 @@
+//! Tests of dumps, of volumes that are read back, and of listed reels, by public calls alone. They
+//! are a crate of their own so that each of these crates is proved only once:
+//! - the files of a dump: `rdump_files`.
+//! - its conversation over a connection: `rdump_net`.
+//! - the sums of volumes: `rdump_sums`.
+//! - lists of reels: `rdump_list`.
+#![tactic(auto)]
+
+#[cfg(test)]
+mod tests;

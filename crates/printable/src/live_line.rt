@@ -1,0 +1,116 @@
+//! A line on a terminal that is updated while something long is done.
+use arrayvec::ArrayString;
+use std::fmt::{self, Display, Formatter};
+use std::io::Write;
+use std::time::{Clock, Instant};
+
+/// The least time between two updates of the line, in milliseconds.
+const BETWEEN_MILLIS: u128 = 100;
+
+/// Clears a terminal's line, which shows the progress (ECMA-48, EL).
+pub const CLEAR: &[u8] = b"\r\x1b[K";
+
+/// The bytes of one KiB.
+const KIB: u64 = 1024;
+
+/// The bytes of one MiB.
+const MIB: u64 = 1024 * KIB;
+
+/// The text of a line of progress: at most 128 bytes.
+pub type LiveText = ArrayString<128>;
+
+/// A rate, in bytes a second. It is printed in KiB a second below 10 MiB a second, and otherwise in
+/// MiB a second: `317 KiB/s`.
+#[derive(Clone, Copy)]
+pub struct Rate(u64);
+
+impl Display for Rate {
+    fn fmt<W: fmt::Write>(&self, f: &mut Formatter<W>) -> fmt::Result {
+        if self.0 < 10 * MIB {
+            write!(f, "{} KiB/s", self.0 / KIB)
+        } else {
+            write!(f, "{} MiB/s", self.0 / MIB)
+        }
+    }
+}
+
+/// A line on a terminal that shows how far something is. It is updated at most ten times a second.
+///
+/// A write that fails is ignored. If the clock cannot be read, nothing is shown. Its calls have no
+/// contract.
+#[derive(Drop)]
+pub struct LiveLine<'a, R: Clock, W: Write> {
+    clock: &'a R,
+    terminal: W,
+    began: Option<Instant>,
+    bytes: u64,
+    shown: Option<Instant>,
+}
+
+impl<'a, R: Clock, W: Write> LiveLine<'a, R, W> {
+    /// Makes a progress line for this terminal, and shows nothing yet.
+    pub fn new(clock: &'a R, terminal: W) -> Self {
+        LiveLine {
+            clock,
+            terminal,
+            began: None,
+            bytes: 0,
+            shown: None,
+        }
+    }
+
+    /// Resets the rate: the measurement starts again at the next call of `due`.
+    pub fn begin(&mut self) {
+        self.began = None;
+        self.bytes = 0;
+    }
+
+    /// Adds `bytes` to the number of bytes from which the rate is computed.
+    pub fn add(&mut self, bytes: usize) {
+        self.bytes = self.bytes.saturating_add(bytes as u64);
+    }
+
+    /// Returns the rate, if it is time to update the line. The rate is measured since the first
+    /// call of `due` after the last call of `begin`.
+    pub fn due(&mut self) -> Option<Rate> {
+        let now = Instant::now(self.clock).ok()?;
+        let began = self.began.unwrap_or(now);
+        self.began = Some(began);
+        if !self.is_due(now) {
+            return None;
+        }
+        self.shown = Some(now);
+        Some(self.rate(began, now))
+    }
+
+    /// Shows a text on the line in place of the previous text.
+    pub fn print(&mut self, text: &LiveText) {
+        let mut line = ArrayString::<136>::new();
+        line.push_str("\r");
+        line.push_str(text);
+        line.push_str("\x1b[K");
+        let _ = self.terminal.write_all(line.as_bytes());
+    }
+
+    /// Clears the line on the terminal, if the line was shown.
+    pub fn clear(&mut self) {
+        if self.shown.take().is_some() {
+            let _ = self.terminal.write_all(CLEAR);
+        }
+    }
+
+    /// Whether enough time has passed since the last update.
+    fn is_due(&self, now: Instant) -> bool {
+        match self.shown {
+            Some(shown) => now.duration_since(shown).as_millis() >= BETWEEN_MILLIS,
+            None => true,
+        }
+    }
+
+    /// Returns the rate since `began`.
+    fn rate(&self, began: Instant, now: Instant) -> Rate {
+        let millis = now.duration_since(began).as_millis();
+        let rate = u128::from(self.bytes) * 1000 / millis.max(1);
+        Rate(u64::try_from(rate).unwrap_or(u64::MAX))
+    }
+}
