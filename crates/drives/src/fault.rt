@@ -31,6 +31,15 @@ pub enum DriveFault {
     NameTaken,
 }
 
+/// Why an open was refused, for a log.
+#[derive(Clone, Copy)]
+pub enum OpenRefusal {
+    /// The open had this mode, which asks for no access that a drive has.
+    BadMode(u32),
+    /// The drive could not be opened.
+    Drive(DriveFault),
+}
+
 impl From<AllocError> for DriveFault {
     // from_gives: `from` turns a failed allocation into `OutOfMemory`.
 

@@ -33,7 +33,7 @@ mod table;
 mod taken;
 mod view;
 
-pub use fault::DriveFault;
+pub use fault::{DriveFault, OpenRefusal};
 pub use holds::{DRIVE_LIMIT, Holds};
 pub use laws::{arranged_at_rest, lying_troubles};
 pub use list::ListStacks;

@@ -69,9 +69,9 @@ impl ListStacks {
     /// Fails with `NameTaken` if a drive has that name, and with `OutOfMemory`. Nothing is changed
     /// then.
     pub fn add_drive(&mut self, name: &[u8]) -> Result<usize, DriveFault>
-        // The new drive has an empty stack and the next number. `add_drive` fails only if an older
-        // drive has the same name, or if an allocation fails. If `add_drive` fails, nothing
-        // changes.
+        // The new drive has an empty stack and the next number. `add_drive` fails with `NameTaken`
+        // only if an older drive has the same name, and otherwise with `OutOfMemory`. If
+        // `add_drive` fails, nothing changes.
         ensures added { IsDriveAdded self.old name.now result self.new }
         // Each reel name still occurs only once. If no device could fail before `add_drive`, none
         // can fail after it.
@@ -92,8 +92,9 @@ impl ListStacks {
     pub fn add_reel(&mut self, drive: usize, name: &[u8], capacity: u64) -> Result<(), DriveFault>
         requires { drive < length self.old.library.drives }
         // The new reel is last on its stack. The new reel is empty, has the given capacity, and has
-        // no trouble. `add_reel` fails only if an older reel (latched, on a stack or in the bin)
-        // has the same name, or if an allocation fails. If `add_reel` fails, nothing changes.
+        // no trouble. `add_reel` fails with `NameTaken` only if an older reel (latched, on a stack
+        // or in the bin) has the same name, and otherwise with `OutOfMemory`. If `add_reel` fails,
+        // nothing changes.
         ensures added { IsReelAdded self.old drive name.now capacity result self.new }
         // Each reel name still occurs only once. If no device could fail before `add_reel`, none
         // can fail after it.

@@ -9,7 +9,7 @@ ghost use Rattle.drives.specs.Calls.{StacksCall, stacks_kind};
 ghost use Rattle.drives.specs.Calls.StacksCall.{Latch, LayBack};
 ghost use Rattle.drives.specs.Stacking.{HasLatched, IsStacksCall, IsMoveCall};
 
-use crate::DriveFault;
+use crate::{DriveFault, OpenRefusal};
 use tape::Reel;
 
 /// A `Stacks` has drives, each with a stack of reels, and one bin.
@@ -97,6 +97,10 @@ pub trait Stacks {
     /// Adds a line to the log of the stacks, if the stacks keep a log. Its contract promises
     /// nothing.
     fn note(&self, _line: &str) {}
+
+    /// Logs that an open of the drive with the given name was refused, if the stacks keep a log.
+    /// Its contract promises nothing.
+    fn note_refused(&self, _name: &[u8], _why: OpenRefusal) {}
 
     /// The contents are at most one library.
     ghost single: { (stacks : Self) (s t : TapeLibrary) → holds stacks s → holds stacks t → s ≡ t };

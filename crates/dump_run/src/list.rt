@@ -74,7 +74,7 @@ impl ListBlocks {
 
 impl Clone for ListBlocks {
     // Returns a copy with the same blocks and the same number of failures. If reads of the source
-    // fail, reads of the copy fail too. The call fails only if an allocation fails.
+    // fail, reads of the copy fail too.
 
     /// Returns a copy with the same payload, the same injected fault and the same number of
     /// failures.

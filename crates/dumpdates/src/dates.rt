@@ -99,7 +99,7 @@ impl Dates {
         // returns the same list, or `OutOfMemory`.
         ensures written { IfOk result (λ text. text.items ≡ written self.now) }
         ensures spelled { IfOk result (λ text. SpellsDates text.items self.now) }
-        // The call fails only if an allocation fails. For an empty list the call never fails.
+        // If the call fails, the error is `OutOfMemory`. For an empty list the call never fails.
         ensures fault { IfErr result (λ fault. fault ≡ OutOfMemory) }
         ensures empty { self.now ≡ [] → IsOk result }
     {
@@ -164,8 +164,8 @@ impl Dates {
         // list has no entry with this name and level, the call appends the new entry. All entries
         // with other names or levels stay.
         ensures entered { OnOk result (self.new ≡ spec.entered self.old (plain_entry entry.entry)) }
-        // The call fails only if an allocation fails. If the list has an entry with the dump's name
-        // and level, the call never fails.
+        // If the call fails, the error is `OutOfMemory`. If the list has an entry with the dump's
+        // name and level, the call never fails.
         ensures fault { IfErr result (λ fault. fault ≡ OutOfMemory) }
         // If the call fails, the list is unchanged.
         ensures unchanged { OnErr result (self.new ≡ self.old) }

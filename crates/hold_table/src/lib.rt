@@ -15,17 +15,17 @@
 //! - A drive's word is n while the seat with number n is the only seat that holds the drive.
 //!
 //! Each call of `take`, `give` or `holder` gets a shared reference to the table, a seat, and a
-//! drive. No call of the table waits. A call can take a lock only if the call gets the Rattle kit's
-//! handle for waiting. No call of the table gets this handle, so code that locks the table does not
-//! compile. docs/THREADS.md says what a table without locks means for a server.
+//! drive. No call of the table waits, and none gets the Rattle kit's handle for waiting.
+//! docs/THREADS.md says what a table without locks means for a server.
 //!
 //! Each of `take`, `give` and `holder` gets only one seat. So the clause `rule` of these calls
 //! cannot name the table's words or the table's other seats. The clause only says that some words
 //! and some other seats exist for which the hold rule is true before and after the step. A wrong
 //! body could satisfy the clause `rule` with words and seats that the table does not have. But one
 //! call of `apart` or `close` gets several seats of one table, so the clauses of these calls are
-//! about the table's own words and seats. If `take`, `give` or `holder` had such a wrong body, the
-//! clauses of `apart` and `close` would be false.
+//! about the table's own words and seats. They rule out bodies with which two seats hold one drive,
+//! or `take` never returns `Held`. They do not rule out a `holder` or a `Busy` with a wrong number,
+//! or a drive that stays busy after a `give`: the tests show that these are right.
 #![tactic(auto)]
 
 mod hand;

@@ -49,8 +49,7 @@ impl HoldTable {
         requires some { 1 ≤ drives }
         requires few { drives ≤ DRIVE_LIMIT }
         // The new table has the given number of drives, and no seat holds a drive. `new` also
-        // returns the table's 32 seats, in the order of their numbers. `new` fails only if an
-        // allocation fails.
+        // returns the table's 32 seats, in the order of their numbers.
         ensures drives { IfOk result (λ made. made.0.words ≡ drives) }
         ensures seats { IfOk result (λ made. made.1.items ≡ dealt made.0 SEAT_LIMIT) }
         ensures count { IfOk result (λ made. length made.1.items ≡ SEAT_LIMIT) }

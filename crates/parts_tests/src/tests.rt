@@ -1,4 +1,4 @@
-//! Arguments, printed text, served streams and restored files, against values worked out by hand.
+//! Arguments, printed text, errors of a server, served streams and restored files, against values worked out by hand.
 
 mod arguments;
 mod folders;
@@ -7,6 +7,7 @@ mod listening;
 mod log_lines;
 mod printing;
 mod progress;
+mod refused;
 mod restored;
 mod socket;
 mod startup;

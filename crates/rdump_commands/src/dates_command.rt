@@ -3,11 +3,12 @@ ghost use Rattle.rdump_commands.specs.Status.{IsDatesStatus};
 
 use dumpdates::{Dates, DatesFault};
 use exit_status::ExitStatus;
+use named_files::{ZonedLine, read_named};
 use rdump_files::dates;
-use rdump_system::{ClientSystem, NO_DUMPDATES, print_fault, report, report_failures};
+use rdump_system::{ClientSystem, report, report_failures, report_no_dates};
 use rmt_wire::Counted;
 use std::alloc::Global;
-use std::{fs, io};
+use std::io;
 
 /// Queries the dumpdates file at the path `file`, as `rdump dates` does. Prints its text again, or
 /// the base date of a dump of the name and level in `asked`. If it is not a dumpdates file,
@@ -19,22 +20,24 @@ pub fn run_dates<R: ClientSystem>(rt: &R, file: &str, asked: Option<(&str, u8)>)
     // The returned status is `Success` or `StartupError`.
     ensures { IsDatesStatus result }
 {
-    let bytes = match fs::read(rt, file) {
+    let bytes = match read_named(rt, rt.alloc(), file) {
         Ok(bytes) => bytes,
         Err(error) => return report(rt, file, error),
     };
     let mut out = Counted::new(io::writer(rt));
     let status = dates(rt.alloc(), &bytes, asked, &mut out);
-    if status == ExitStatus::StartupError && is_bad(rt.alloc(), &bytes) {
-        print_fault(rt, file, NO_DUMPDATES);
+    if status == ExitStatus::StartupError {
+        if let Some(fault) = bad_line(rt.alloc(), &bytes) {
+            report_no_dates(rt, file, ZonedLine::find(rt.alloc(), &bytes, fault));
+        }
     }
     report_failures(rt, out.failures(), status)
 }
 
-/// Whether these bytes have a line that is not an entry.
-fn is_bad(alloc: Global, bytes: &[u8]) -> bool {
+/// Returns the fault of the first line of these bytes that is not an entry, if there is one.
+fn bad_line(alloc: Global, bytes: &[u8]) -> Option<DatesFault> {
     match Dates::read(alloc, bytes) {
-        Err(DatesFault::BadLine(_) | DatesFault::BadDate(_)) => true,
-        Ok(_) | Err(DatesFault::OutOfMemory) => false,
+        Ok(_) | Err(DatesFault::OutOfMemory) => None,
+        Err(fault) => Some(fault),
     }
 }

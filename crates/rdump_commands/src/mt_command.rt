@@ -7,13 +7,15 @@ ghost use Rattle.rdump_args.specs.Rdump.{IsMtLine};
 use exit_status::ExitStatus;
 use printable::{PlainBytes, plain};
 use rdump_args::MtLine;
-use rdump_net::{SocketPeer, mt};
+use rdump_net::{Peer, SocketPeer, mt};
 use rdump_system::{ClientSystem, may_be_terminal, report_failed, report_unwritten};
-use rmt_wire::Counted;
+use refusals::{Refusal, RefusedRequest, request_of};
+use rmt_wire::{Counted, find_byte};
 use std::io::{self, Write};
 
 /// Does one operation on a drive, as `rdump mt` does, and prints the reply of the server. On a
-/// terminal, control characters in it are printed as `?`.
+/// terminal, control characters in it are printed as `?`. If the reply is an error, prints on
+/// standard error what it means.
 ///
 /// Returns the exit status: `Success` if the operation was done and its reply was printed, and
 /// `Abnormal` otherwise.
@@ -23,15 +25,68 @@ pub fn run_mt<R: ClientSystem>(rt: &R, line: MtLine<'_>) -> ExitStatus
     ensures { IsMtStatus result }
 {
     let mut answer = Vec::new(rt.alloc());
-    let mut peer = SocketPeer::new(rt, line.to, line.timeout);
+    let mut peer = AskedPeer {
+        socket: SocketPeer::new(rt, line.to, line.timeout),
+        asked: RefusedRequest::Open,
+    };
     let status = answer_of(rt, line, &mut peer, &mut answer);
     if answer.is_empty() {
-        return report_unanswered(rt, line.to, peer.failure());
+        return report_unanswered(rt, line.to, peer.socket.failure());
     }
     if print_answer(rt, &answer).is_err() {
         return report_unwritten(rt, ExitStatus::Abnormal);
     }
+    if let Some(number) = error_number(&answer) {
+        report_refused(rt, &line, peer.asked, number);
+    }
     status
+}
+
+/// A server that is asked for one operation. It remembers the last request before the close, since
+/// that is the one whose reply is printed. Its contracts state nothing of what is sent and received.
+#[derive(Drop)]
+struct AskedPeer<'a, R: ClientSystem> {
+    socket: SocketPeer<'a, R>,
+    asked: RefusedRequest,
+}
+
+impl<'a, R: ClientSystem> Peer for AskedPeer<'a, R> {
+    ghost tells = { λ _ _. ⊥ };
+
+    fn connect(&mut self) -> bool {
+        self.socket.connect()
+    }
+
+    fn send(&mut self, bytes: &[u8]) -> bool {
+        match request_of(bytes) {
+            Some(RefusedRequest::Close) | None => {}
+            Some(asked) => self.asked = asked,
+        }
+        self.socket.send(bytes)
+    }
+
+    fn receive(&mut self, into: &mut [u8]) -> usize {
+        self.socket.receive(into)
+    }
+
+    fn hang_up(&mut self) {
+        self.socket.hang_up();
+    }
+}
+
+/// Returns the number of the error in a reply, if the reply is an error.
+fn error_number(answer: &[u8]) -> Option<u32> {
+    let text = answer.strip_prefix(b"E")?;
+    let end = find_byte(text, b' ')?;
+    str::from_utf8(&text[..end]).ok()?.parse::<u32>().ok()
+}
+
+/// Prints the error with which the server refused the request `asked`, what it means and what to
+/// do.
+fn report_refused<R: ClientSystem>(rt: &R, line: &MtLine<'_>, asked: RefusedRequest, number: u32) {
+    let to = plain(line.to);
+    let refusal = Refusal::new(asked, number, line.device);
+    let _ = eprintln!(rt; "rdump: {to}: {asked} refused with E{number}: {refusal}");
 }
 
 /// Prints a reply of one line.
@@ -46,7 +101,7 @@ fn print_answer<R: ClientSystem>(rt: &R, answer: &[u8]) -> io::Result<()> {
 fn answer_of<R: ClientSystem>(
     rt: &R,
     line: MtLine<'_>,
-    peer: &mut SocketPeer<'_, R>,
+    peer: &mut AskedPeer<'_, R>,
     answer: &mut Vec<u8>,
 ) -> ExitStatus
     requires { IsMtLine line }

@@ -15,12 +15,14 @@ use crate::sums_start::report_unsummed;
 use dump_client::{Blocks, Client, ResumeFault, Run};
 use dump_run::Checkpoint;
 use exit_status::ExitStatus;
+use printable::{PlainBytes, plain};
 use rdump_args::DumpLine;
 use rdump_files::{
     FileFailed, PayloadFile, ProgressLine, ReplacedFile, ResumedDumpFault, WholeFile, dumper_of,
     resume_dump, run_of,
 };
 use rdump_system::{ClientSystem, print_fault, report, report_failed, report_no_memory};
+use std::fmt::Display;
 use std::io::{self, Write};
 use tape::Medium;
 use volume_sum::Summed;
@@ -128,12 +130,15 @@ fn resume_from<R: ClientSystem, M: Medium + Drop, T: Write + Copy + Drop>(
     let dates = dates_of(checkpoint.run());
     let gauge = terminal.map(|it| ProgressLine::new(rt, it));
     let is_summed = line.sums.is_some();
+    let Ok(kept) = checkpoint.run().clone() else {
+        return report_no_memory(rt);
+    };
     match resume_dump(rt.alloc(), run, checkpoint, payload, gauge, is_summed) {
         Ok(mut client) => {
             let blocks = Some(run.blocks());
             dump_held(rt, line, start, dates, blocks, &mut client, file, terminal)
         }
-        Err(fault) => refuse_checkpoint(rt, path, fault),
+        Err(fault) => refuse_checkpoint(rt, path, &kept, run, fault),
     }
 }
 
@@ -202,21 +207,64 @@ fn refuse_text<R: ClientSystem>(rt: &R, path: &str, fault: ResumeFault) -> ExitS
     }
 }
 
-/// Prints why the checkpoint at this path cannot be resumed, and returns the exit status.
-fn refuse_checkpoint<R: ClientSystem>(rt: &R, path: &str, fault: ResumedDumpFault) -> ExitStatus
+/// Prints why the checkpoint at this path cannot be resumed, and returns the exit status. `kept` is
+/// the run of the checkpoint, and `run` that of this dump.
+fn refuse_checkpoint<R: ClientSystem>(
+    rt: &R,
+    path: &str,
+    kept: &Run,
+    run: &Run,
+    fault: ResumedDumpFault,
+) -> ExitStatus
     ensures { result ≡ StartupError }
 {
     match fault {
         ResumedDumpFault::OutOfMemory => report_no_memory(rt),
         ResumedDumpFault::OfAnother => {
             let _ = println!(rt; "checkpoint is of another dump");
-            print_fault(
-                rt,
-                path,
-                "it has another device, name, level, block size or number of blocks",
-            )
+            report_differences(rt, path, kept, run);
+            ExitStatus::StartupError
         }
     }
+}
+
+/// Prints each parameter in which the run of the checkpoint at this path, `kept`, differs from that
+/// of this dump. The dates of a run may differ.
+fn report_differences<R: Eprint>(rt: &R, path: &str, kept: &Run, run: &Run) {
+    if kept.device() != run.device() {
+        report_values(
+            rt,
+            path,
+            "device",
+            PlainBytes(kept.device()),
+            PlainBytes(run.device()),
+        );
+    }
+    if kept.name() != run.name() {
+        report_values(rt, path, "name", kept.name(), run.name());
+    }
+    if kept.level() != run.level() {
+        report_values(rt, path, "level", kept.level(), run.level());
+    }
+    if kept.block_bytes() != run.block_bytes() {
+        report_values(
+            rt,
+            path,
+            "block size",
+            kept.block_bytes(),
+            run.block_bytes(),
+        );
+    }
+    if kept.blocks() != run.blocks() {
+        report_values(rt, path, "number of blocks", kept.blocks(), run.blocks());
+    }
+}
+
+/// Prints the values that a parameter of a run has in the checkpoint at this path, and in this
+/// dump.
+fn report_values<R: Eprint, V: Display + Drop>(rt: &R, path: &str, name: &str, kept: V, here: V) {
+    let path = plain(path);
+    let _ = eprintln!(rt; "rdump: {path}: its {name} is {kept}, and that of this dump is {here}");
 }
 
 /// Prints why the checkpoint file at this path could not be read, and returns the exit status.

@@ -16,13 +16,14 @@ use dump_client::{Blocks, Client};
 use dumpdates::DatesFault;
 use exit_status::ExitStatus;
 use file_medium::FileMedium;
+use named_files::ZonedLine;
 use printable::plain;
 use rdump_args::DumpLine;
 use rdump_files::{
-    DumperFault, PayloadFile, ProgressLine, ReplacedFile, base_date, date_text, dumper,
-    read_or_empty, read_steady, seconds_now,
+    DumperFault, PayloadFile, ProgressLine, ReplacedFile, base_date, check_plain, date_text,
+    dumper, read_or_empty, read_steady, seconds_now,
 };
-use rdump_system::{ClientSystem, NO_DUMPDATES, print_fault, report, report_no_memory};
+use rdump_system::{ClientSystem, print_fault, report, report_no_dates, report_no_memory};
 use rmt_wire::Counted;
 use std::fs::File;
 use std::io::{self, ErrorKind, Write};
@@ -112,6 +113,11 @@ fn since_of<R: ClientSystem>(
     if let Some(status) = refuse_files(rt, line, path, added) {
         return Err(status);
     }
+    if line.update {
+        if let Err(error) = check_plain(rt, path) {
+            return Err(report(rt, path, error));
+        }
+    }
     match read_or_empty(rt, rt.alloc(), path) {
         Ok(file) => since_in(rt, line, start, &file),
         Err(error) => Err(report(rt, path, error)),
@@ -138,7 +144,10 @@ fn since_in<R: ClientSystem>(
         },
         // The failed allocation is already printed.
         Err(DatesFault::OutOfMemory) => Err(ExitStatus::StartupError),
-        Err(_) => Err(print_fault(rt, line.dumpdates, NO_DUMPDATES)),
+        Err(fault) => {
+            let zoned = ZonedLine::find(rt.alloc(), file, fault);
+            Err(report_no_dates(rt, line.dumpdates, zoned))
+        }
     }
 }
 
@@ -245,6 +254,7 @@ pub(crate) struct RunDates {
 
 /// Prints what is known before the first attempt:
 ///
+/// - that the payload is empty
 /// - the base date, if standard error is a terminal
 /// - that the base date is after the date of the dump
 /// - that an entry of a later date is to be replaced
@@ -258,6 +268,9 @@ fn report_first<R: ClientSystem>(
     dates: RunDates,
     is_at_terminal: bool,
 ) -> io::Result<()> {
+    if start.bytes == 0 {
+        report_empty(rt, line.payload);
+    }
     if is_at_terminal {
         report_since(rt, dates.since)?;
     }
@@ -282,6 +295,12 @@ fn report_replaced<R: ClientSystem>(rt: &R, line: &DumpLine<'_>, replaced: u64) 
         "rdump: {path}: the entry of {name} level {level} that this dump is to replace has a later date, {date}"
     );
     Ok(())
+}
+
+/// Prints that the payload at this path is empty.
+fn report_empty<R: Eprint>(rt: &R, path: &str) {
+    let path = plain(path);
+    let _ = eprintln!(rt; "rdump: {path}: it is empty: the dump has no block");
 }
 
 /// Prints the date `since`, after which a block counts as new. Fails only if an allocation fails.

@@ -2,13 +2,16 @@
 //!
 //! In comments, `line` is the parsed command line.
 
+use crate::shell_word::OfflineCommand;
 use dump_run::VolumeLabel;
 use printable::plain;
 use rdump_args::DumpLine;
 use rdump_net::{
-    CallFault, LookFault, Peer, Protection, ReelFront, SocketPeer, find_protection, look_at_reel,
+    CallFault, LookFault, LookRequest, Peer, Protection, ReelFront, SocketPeer, find_protection,
+    look_at_reel,
 };
 use rdump_system::ClientSystem;
+use refusals::{Refusal, RefusedRequest};
 use rmt_wire::argument::is_device;
 use std::io;
 
@@ -63,7 +66,7 @@ pub(crate) fn report_held<R: Eprint>(
             front,
             *protection,
         ),
-        AttemptRefusal::Failed(fault) => report_failed_look(rt, line.to, *fault, failure),
+        AttemptRefusal::Failed(fault) => report_failed_look(rt, line, *fault, failure),
     }
 }
 
@@ -84,6 +87,7 @@ fn report_protected<R: Eprint>(
 /// Prints which volume a reel has that begins like this.
 fn report_other<R: Eprint>(rt: &R, line: &DumpLine<'_>, front: &ReelFront) {
     let (to, device) = (plain(line.to), plain(line.device));
+    let away = OfflineCommand(line);
     if let Some(label) = label_of(front) {
         let (name, level, date, volume) = (
             label.name(),
@@ -93,7 +97,8 @@ fn report_other<R: Eprint>(rt: &R, line: &DumpLine<'_>, front: &ReelFront) {
         );
         let _ = eprintln!(rt;
             "rdump: {to}: protected: the first reel of {device} has a volume of another dump: \
-             {name} level {level} date {date}, volume {volume}; lay another reel first, then answer yes"
+             {name} level {level} date {date}, volume {volume}; take it away ({away}) or lay another \
+             reel first, then answer yes"
         );
     }
 }
@@ -101,9 +106,10 @@ fn report_other<R: Eprint>(rt: &R, line: &DumpLine<'_>, front: &ReelFront) {
 /// Prints `what` about the first reel of a drive.
 fn report_front<R: Eprint>(rt: &R, line: &DumpLine<'_>, what: &str) {
     let (to, device) = (plain(line.to), plain(line.device));
+    let away = OfflineCommand(line);
     let _ = eprintln!(rt;
-        "rdump: {to}: protected: the first reel of {device} {what}; lay another reel first, \
-         then answer yes"
+        "rdump: {to}: protected: the first reel of {device} {what}; take it away ({away}) or lay \
+         another reel first, then answer yes"
     );
 }
 
@@ -115,20 +121,20 @@ fn label_of(front: &ReelFront) -> Option<VolumeLabel> {
     }
 }
 
-/// Prints why the look at the reel at `address` failed. `fault` is how it failed. `failure` is the
+/// Prints why the look at the reel failed. `fault` is how it failed. `failure` is the
 /// system's error, if the connection of the look failed with one; it is printed in place of a fault
 /// that says only that the connection ended.
 fn report_failed_look<R: Eprint>(
     rt: &R,
-    address: &str,
+    line: &DumpLine<'_>,
     fault: LookFault,
     failure: Option<&io::Error>,
 ) {
-    let address = plain(address);
+    let address = plain(line.to);
     let _ = match (fault, failure) {
         (LookFault::Refused { asked, number }, _) => {
-            let error = refusal(number);
-            eprintln!(rt; "rdump: {address}: the look failed: {asked}: Refused {number}: {error}")
+            let refusal = Refusal::new(request_named(asked), number, line.device);
+            eprintln!(rt; "rdump: {address}: the look failed: {asked}: Refused {number}: {refusal}")
         }
         (LookFault::NoReply(CallFault::ConnectionEnded), Some(error)) => {
             eprintln!(rt; "rdump: {address}: the look failed: {error}")
@@ -139,7 +145,13 @@ fn report_failed_look<R: Eprint>(
     };
 }
 
-/// Returns the system's error of this number.
-pub(crate) fn refusal(number: u32) -> io::Error {
-    io::Error::from_raw_os_error(i32::try_from(number).unwrap_or(i32::MAX))
+/// Returns the request of a look that a server may refuse.
+fn request_named(asked: LookRequest) -> RefusedRequest {
+    match asked {
+        LookRequest::Open => RefusedRequest::Open,
+        LookRequest::Rewind => RefusedRequest::Rewind,
+        LookRequest::Read => RefusedRequest::Read,
+        LookRequest::Space => RefusedRequest::Space,
+        LookRequest::Close => RefusedRequest::Close,
+    }
 }

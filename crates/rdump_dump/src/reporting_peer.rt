@@ -3,24 +3,29 @@
 //! In comments, `line` is the parsed command line.
 ghost use Rattle.std.specs.Prelude.{◌≤◌, length};
 
-use crate::protecting::{find_obstacle, refusal, report_held};
-use crate::shell_word::ShellWord;
+use crate::protecting::{find_obstacle, report_held};
+use crate::shell_word::OfflineCommand;
 use dump_client::AttemptFault;
-use dump_run::VolumeLabel;
+use dump_run::{LABEL_BYTES, VolumeLabel};
 use jiff::Timestamp;
 use jiff::civil::Date;
 use jiff::tz::TimeZone;
-use printable::plain;
+use printable::{CLEAR, plain};
 use rdump_args::DumpLine;
-use rdump_files::CLEAR;
 use rdump_net::{Peer, ReadFault, SocketPeer};
 use rdump_system::ClientSystem;
-use rmt_wire::errno::EIO;
+use refusals::{Refusal, RefusedRequest, request_of};
 use std::io::{self, Write};
+use tape::{LENGTH_BYTES, entry_size};
+
+/// How many bytes a record takes on a reel besides its own: its length before it and after it.
+const FRAME_BYTES: u64 = 2 * LENGTH_BYTES;
 
 /// The server of a dump. It prints on standard error why an attempt failed or must not begin, and
 /// which label is overwritten. On a terminal it first clears the line of progress. Its contracts
 /// state nothing of what is sent and received.
+///
+/// It remembers which request was sent last, since that is the one that a server refuses.
 ///
 /// If `line` asks for `protect`, it looks at the reel before each attempt, over a connection of its
 /// own.
@@ -31,6 +36,7 @@ pub(crate) struct ReportingPeer<'a, R: ClientSystem, T> {
     socket: SocketPeer<'a, R>,
     looks: SocketPeer<'a, R>,
     terminal: Option<T>,
+    asked: RefusedRequest,
 }
 
 impl<'a, R: ClientSystem, T: Write> ReportingPeer<'a, R, T> {
@@ -43,6 +49,7 @@ impl<'a, R: ClientSystem, T: Write> ReportingPeer<'a, R, T> {
             socket: SocketPeer::new(rt, line.to, line.timeout),
             looks: SocketPeer::new(rt, line.to, line.timeout),
             terminal,
+            asked: RefusedRequest::Open,
         }
     }
 
@@ -74,6 +81,9 @@ impl<'a, R: ClientSystem, T: Write> Peer for ReportingPeer<'a, R, T> {
     }
 
     fn send(&mut self, bytes: &[u8]) -> bool {
+        if let Some(asked) = request_of(bytes) {
+            self.asked = asked;
+        }
         self.socket.send(bytes)
     }
 
@@ -98,11 +108,11 @@ impl<'a, R: ClientSystem, T: Write> Peer for ReportingPeer<'a, R, T> {
             }
             AttemptFault::Refused(number) => {
                 self.clear();
-                report_refused(self.rt, self.line.to, number);
+                report_refused(self.rt, &self.line, self.asked, number);
             }
             AttemptFault::CountedReel(volume) => {
                 self.clear();
-                report_counted(self.rt, self.line.to, self.line.device, volume);
+                report_counted(self.rt, &self.line, volume);
             }
             AttemptFault::Botched => {
                 self.clear();
@@ -111,6 +121,10 @@ impl<'a, R: ClientSystem, T: Write> Peer for ReportingPeer<'a, R, T> {
             AttemptFault::SourceFault => {
                 self.clear();
                 report_unread(self.rt, self.line.payload);
+            }
+            AttemptFault::ReelTooSmall => {
+                self.clear();
+                report_small(self.rt, self.line.to, self.line.block);
             }
             _ => {}
         }
@@ -136,27 +150,22 @@ fn report_ended<R: Eprint>(rt: &R, address: &str, failure: Option<&io::Error>) {
     };
 }
 
-/// Prints the error with which a server refused a request. After `EIO` also prints how to find out
-/// more.
-fn report_refused<R: Eprint>(rt: &R, address: &str, number: u32) {
-    let address = plain(address);
-    let error = refusal(number);
-    let _ = eprintln!(rt; "rdump: {address}: Refused {number}: {error}");
-    if number == EIO {
-        let _ = eprintln!(rt;
-            "rdump: {address}: look in the server's log, and in the bin for a file of this reel's name"
-        );
-    }
+/// Prints the error with which the server refused the request `asked`, what it means and what to
+/// do.
+fn report_refused<R: Eprint>(rt: &R, line: &DumpLine<'_>, asked: RefusedRequest, number: u32) {
+    let address = plain(line.to);
+    let refusal = Refusal::new(asked, number, line.device);
+    let _ = eprintln!(rt; "rdump: {address}: Refused {number}: {refusal}");
 }
 
 /// Prints what to do with a reel that begins with the label of a counted volume.
-fn report_counted<R: Eprint>(rt: &R, address: &str, device: &str, volume: u32) {
-    let (to, drive) = (ShellWord(address), ShellWord(device));
-    let (address, device) = (plain(address), plain(device));
+fn report_counted<R: Eprint>(rt: &R, line: &DumpLine<'_>, volume: u32) {
+    let away = OfflineCommand(line);
+    let (address, device) = (plain(line.to), plain(line.device));
     let _ = eprintln!(rt;
         "rdump: {address}: CountedReel {volume}: the first reel of the stack of {device} begins \
-         with the label of volume {volume}, which this dump has counted; take it away \
-         (rdump mt --to {to} --device {drive} offline 1) or lay another one first, then answer yes"
+         with the label of volume {volume}, which this dump has counted; take it away ({away}) or \
+         lay another one first, then answer yes"
     );
 }
 
@@ -172,6 +181,20 @@ fn report_unread<R: Eprint>(rt: &R, payload: &str) {
     let payload = plain(payload);
     let _ = eprintln!(rt;
         "rdump: {payload}: a block could not be read: the file became shorter, or its disk failed"
+    );
+}
+
+/// Prints how many bytes a volume of one block of `block` bytes takes on a reel, which has less
+/// room.
+fn report_small<R: Eprint>(rt: &R, address: &str, block: u64) {
+    let (label, mark) = (entry_size(LABEL_BYTES as u32), entry_size(0));
+    let block = block.saturating_add(FRAME_BYTES);
+    let total = label.saturating_add(block).saturating_add(mark);
+    let address = plain(address);
+    let _ = eprintln!(rt;
+        "rdump: {address}: ReelTooSmall: a volume of one block takes {total} bytes (label {label}, \
+         block {block}, mark {mark}), and the reel has less room: the server's capacity or disk is too \
+         small; start rmtd with a larger --capacity, or use a smaller --block"
     );
 }
 

@@ -1,6 +1,7 @@
-//! Formats a text as one word for a shell.
+//! Commands for a shell, to print.
 
 use printable::plain;
+use rdump_args::DumpLine;
 use std::fmt::{self, Display, Formatter, Write as _};
 
 /// A text as one word of a command for sh(1). It is unchanged if it is not empty and contains only
@@ -22,6 +23,17 @@ impl Display for ShellWord<'_> {
             write!(f, "{}", plain(piece))?;
         }
         f.write_str("'")
+    }
+}
+
+/// The command that takes the first reel of a dump's drive offline.
+#[derive(Clone, Copy)]
+pub(crate) struct OfflineCommand<'l, 'a>(pub &'l DumpLine<'a>);
+
+impl Display for OfflineCommand<'_, '_> {
+    fn fmt<W: fmt::Write>(&self, f: &mut Formatter<W>) -> fmt::Result {
+        let (to, drive) = (ShellWord(self.0.to), ShellWord(self.0.device));
+        write!(f, "rdump mt --to {to} --device {drive} offline 1")
     }
 }
 

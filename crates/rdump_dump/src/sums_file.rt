@@ -1,7 +1,7 @@
 //! The file in which a dump keeps the sums of its counted volumes.
 use dump_client::{Blocks, Client, VolumeCount};
-use printable::plain;
-use rdump_files::{CLEAR, ReplacedFile};
+use printable::{CLEAR, plain};
+use rdump_files::ReplacedFile;
 use rdump_net::CountBook;
 use rdump_sums::{EnterFault, enter_sum, sum_line_of};
 use rdump_system::{ClientSystem, NO_SUMS};

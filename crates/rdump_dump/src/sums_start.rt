@@ -5,15 +5,14 @@ ghost use Rattle.std.specs.Prelude.{◌≡◌, IfErr, IfSome};
 ghost use Rattle.exit_status.specs.declared.status.ExitStatus.TheVariants.{StartupError};
 
 use crate::dump_start::{DumpStart, refuse_files, refuse_unknown_new};
-use crate::protecting::refusal;
 use dump_client::{Blocks, Client, VolumeCount};
 use exit_status::ExitStatus;
 use printable::plain;
 use rdump_args::DumpLine;
-use rdump_files::{ReplacedFile, read_or_empty};
+use rdump_files::{ReplacedFile, check_plain, read_or_empty};
 use rdump_system::{ClientSystem, NO_SUMS, report, report_no_memory};
 use rmt_wire::errno::ENOENT;
-use std::io::ErrorKind;
+use std::io::{self, ErrorKind};
 use sum_lines::{SumLine, Sums, SumsFault};
 
 /// Reads the sums file that `line` names, if it names one, and keeps its lines in `start`. If the
@@ -29,11 +28,15 @@ pub(crate) fn refuse_sums<R: ClientSystem>(
     let path = line.sums?;
     if path.is_empty() {
         // No file has this name, although its new file could be made.
-        return Some(report(rt, path, refusal(ENOENT)));
+        let error = io::Error::from_raw_os_error(ENOENT as i32);
+        return Some(report(rt, path, error));
     }
     let added = start.files.add_sums(rt, rt.alloc(), path);
     if let Some(status) = refuse_files(rt, line, path, added) {
         return Some(status);
+    }
+    if let Err(error) = check_plain(rt, path) {
+        return Some(report(rt, path, error));
     }
     match read_sums(rt, path) {
         Ok(sums) => start.sums = Some(sums),

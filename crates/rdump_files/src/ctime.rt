@@ -13,7 +13,7 @@ pub fn date_text(alloc: Global, date: u64) -> Option<String>
     // Returns the text that ctime(3) prints for the date, without the line feed. The contracts of
     // `dumpdates` define the text of each date in a dumpdates file in the same way. The call can
     // also return none. Tests show that the call returns none only if the year is above 9999 or an
-    // allocation failed. Tests: `a_date_as_text` in `programs_tests`.
+    // allocation failed. Tests: `a_date_as_text` in `client_tests`.
     ensures { IfSome result (λ text. string_bytes text ≡ ctime_text date) }
 {
     let text = dumpdates::date_text(date)?;

@@ -2,10 +2,10 @@
 
 use crate::payload_look::is_one;
 use crate::whole_file::or_empty;
+use named_files::{is_null, no_plain_file, read_limited};
 use std::alloc::Global;
 use std::fs::{self, File};
 use std::io::{self, ErrorKind, Read};
-use std::os::unix::fs::FileTypeExt;
 use std::rt::Files;
 use std::time::{Clock, SystemTime, UNIX_EPOCH};
 
@@ -36,20 +36,21 @@ pub(crate) fn read_if_there<R: Files<File = File>>(
     alloc: Global,
     path: &str,
 ) -> io::Result<Option<Vec<u8>>> {
-    match open_lasting(rt, path) {
-        Ok(mut file) => Ok(Some(read_rest(alloc, &mut file)?)),
+    match open_plain(rt, path) {
+        Ok(file) => Ok(Some(read_limited(alloc, file)?)),
         Err(error) if error.kind() == ErrorKind::NotFound => Ok(None),
         Err(error) => Err(error),
     }
 }
 
-/// Opens a file to read it. Does not open a pipe, since that would wait for a writer.
+/// Opens a regular file or the null device to read it. Opens nothing else: a pipe would wait for a
+/// writer, and another device may have no end.
 ///
-/// Fails with the system's error. Fails with `InvalidInput` if the file is a pipe, or if a regular
-/// file was exchanged before it was opened.
-fn open_lasting<R: Files<File = File>>(rt: &R, path: &str) -> io::Result<File> {
+/// Fails with the system's error. Fails with `InvalidInput` if it is something else, or if a
+/// regular file was exchanged before it was opened.
+fn open_plain<R: Files<File = File>>(rt: &R, path: &str) -> io::Result<File> {
     let looked = fs::metadata(rt, path)?;
-    if looked.file_type().is_fifo() {
+    if !looked.is_file() && !is_null(rt, &looked) {
         return Err(no_plain_file());
     }
     let file = File::open(rt, path)?;
@@ -59,9 +60,16 @@ fn open_lasting<R: Files<File = File>>(rt: &R, path: &str) -> io::Result<File> {
     Ok(file)
 }
 
-/// Returns the error if something other than a regular file is there.
-pub(crate) fn no_plain_file() -> io::Error {
-    io::Error::new(ErrorKind::InvalidInput, "it is no plain file")
+/// Checks that a regular file is at this path, or nothing.
+///
+/// Fails with the system's error. Fails with `InvalidInput` if something else is there.
+pub fn check_plain<R: Files<File = File>>(rt: &R, path: &str) -> io::Result<()> {
+    match fs::metadata(rt, path) {
+        Ok(found) if found.is_file() => Ok(()),
+        Ok(_) => Err(no_plain_file()),
+        Err(error) if error.kind() == ErrorKind::NotFound => Ok(()),
+        Err(error) => Err(error),
+    }
 }
 
 /// Returns the error if a file was exchanged before it was opened.
@@ -70,11 +78,12 @@ pub(crate) fn exchanged() -> io::Error {
     io::Error::new(ErrorKind::InvalidInput, error)
 }
 
-/// Reads a whole file, or returns no bytes if the file does not exist.
+/// Reads a whole file, or returns no bytes if the file does not exist or is the null device.
 ///
 /// Fails with the system's error if the file cannot be opened or read. Fails with `InvalidInput` if
-/// it is a pipe, which is not opened, or if a regular file was exchanged before it was opened.
-/// Fails with `OutOfMemory` if an allocation fails.
+/// it is something other than a regular file, which is not opened, or if a regular file was
+/// exchanged before it was opened. Also fails so if it has more than 256 MiB. Fails with
+/// `OutOfMemory` if an allocation fails.
 pub fn read_or_empty<R: Files<File = File>>(
     rt: &R,
     alloc: Global,

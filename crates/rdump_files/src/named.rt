@@ -1,6 +1,6 @@
 //! Finds the file that a path names.
 
-use crate::files::no_plain_file;
+use named_files::no_plain_file;
 use std::alloc::Global;
 use std::fs::{self, File};
 use std::io::{self, ErrorKind};

@@ -1,7 +1,7 @@
 //! Shows the progress of a dump.
-use crate::live_line::{CLEAR, LiveLine, LiveText};
 use dump_client::{Blocks, SourceFailed};
 use dump_run::LABEL_BYTES;
+use printable::{CLEAR, LiveLine, LiveText};
 use std::fmt::Write as _;
 use std::io::{self, Write};
 use std::marker::Model;

@@ -53,7 +53,7 @@ pub fn resume_dump<M: Medium + Drop, G: Gauge + Drop>(
     ensures over { IfOk result (λ c. IsOver c.at.run c.at.counts c.at) }
     // The client takes its blocks from the payload.
     ensures source { IfOk result (λ c. c.source ≡ payload) }
-    // The call fails only if the checkpoint belongs to another dump, or if an allocation fails.
+    // If the call fails, the checkpoint belongs to another dump, or the error is `OutOfMemory`.
     ensures refused { IfErr result (IsResumedDumpFault checkpoint.run run.now) }
 {
     if !checkpoint.run().is_same_dump(run) {

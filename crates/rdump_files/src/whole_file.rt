@@ -44,7 +44,7 @@ pub trait WholeFile {
         // Tests show that `ReplacedFile` syncs the new file before the rename, and the folder after
         // the rename. Tests also show that a failed replacement leaves no new file behind. If
         // another program has created a file with the name of the new file, the file of that
-        // program stays. Tests: `what_takes_the_name_of_a_new_file` in `programs_tests`;
+        // program stays. Tests: `what_takes_the_name_of_a_new_file` in `client_tests`;
         // `tests/checks/updates.py`.
         ensures { takes self.old text.now result self.new };
 }

@@ -1,5 +1,5 @@
 //! Shows how far a volume is read.
-use rdump_files::{LiveLine, LiveText};
+use printable::{LiveLine, LiveText};
 use std::fmt::Write as _;
 use std::io::Write;
 use std::time::Clock;

@@ -3,9 +3,9 @@ ghost use Rattle.std.specs.Prelude.{◌≡◌, IfErr};
 ghost use Rattle.exit_status.specs.declared.status.ExitStatus.TheVariants.{StartupError};
 
 use exit_status::ExitStatus;
+use named_files::read_named;
 use printable::plain;
 use rdump_system::{ClientSystem, NO_SUMS, report, report_no_memory};
-use std::fs;
 use sum_lines::{Sums, SumsFault};
 
 /// Reads the sums file at this path, if one is given. If it cannot be read or is not valid, prints
@@ -19,7 +19,7 @@ pub(crate) fn read_sums<R: ClientSystem>(
     let Some(path) = path else {
         return Ok(None);
     };
-    let bytes = match fs::read(rt, path) {
+    let bytes = match read_named(rt, rt.alloc(), path) {
         Ok(bytes) => bytes,
         Err(error) => return Err(report(rt, path, error)),
     };

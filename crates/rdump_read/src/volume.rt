@@ -13,6 +13,7 @@ use rdump_net::{
     AfterVolume, ReadFault, ReelFront, SocketPeer, VolumeRequest, copy_volume, look_at_reel,
 };
 use rdump_system::{ClientSystem, report_failed, report_unwritten};
+use refusals::{Refusal, RefusedRequest};
 use rmt_wire::errno::ENXIO;
 use std::io::{self, Write};
 use sum_lines::SumVerdict;
@@ -30,6 +31,17 @@ pub(crate) enum ReadEnd {
     OtherDump,
     /// It was not read whole.
     Failed,
+}
+
+/// What a reel begins with that gave no record.
+#[derive(Clone, Copy, PartialEq, Eq)]
+enum SilentFront {
+    /// Nothing: it is empty.
+    Empty,
+    /// A mark.
+    Mark,
+    /// A look did not find out.
+    Undetermined,
 }
 
 /// The result of the read of a volume.
@@ -56,14 +68,19 @@ pub(crate) fn read_volume<R: ClientSystem, T: Write + Drop>(
     sink.begin();
     let read = copy_volume(rt.alloc(), &mut peer, device, after_of(line), sink);
     sink.clear();
+    let front = if read.is_ok() && sink.found().is_none() {
+        Some(front_of(rt, line))
+    } else {
+        None
+    };
     let end = if is_first {
         None
     } else {
-        end_behind(rt, line, read, sink.found())
+        end_behind(rt, read, front)
     };
     VolumeRead {
         blocks: blocks_of(sink),
-        end: end.unwrap_or_else(|| report_volume(rt, line, read, sink, peer.failure())),
+        end: end.unwrap_or_else(|| report_volume(rt, line, read, sink, front, peer.failure())),
     }
 }
 
@@ -87,33 +104,33 @@ fn after_of(line: &ReadLine<'_>) -> AfterVolume {
 }
 
 /// Returns how the stack ended behind a volume, if it did. Either the drive has no more reels, or
-/// the next reel is empty, which is printed. `found` is what the next reel begins with.
+/// the next reel is empty, which is printed. `front` is what the next reel begins with if it gave no
+/// record.
 fn end_behind<R: ClientSystem>(
     rt: &R,
-    line: &ReadLine<'_>,
     read: Result<(), ReadFault>,
-    found: Option<&Found>,
-) -> Option<ReadEnd>
-    requires { IsReadLine line.now }
-{
+    front: Option<SilentFront>,
+) -> Option<ReadEnd> {
     if has_no_reel(read) {
         return Some(ReadEnd::NoReel);
     }
-    if read.is_ok() && found.is_none() && is_blank(rt, line) {
+    if front == Some(SilentFront::Empty) {
         let _ = eprintln!(rt; "the next reel gives no record");
         return Some(ReadEnd::NoRecord);
     }
     None
 }
 
-/// Whether the first reel of the stack is empty. False if the look does not find out.
-fn is_blank<R: ClientSystem>(rt: &R, line: &ReadLine<'_>) -> bool
+/// Returns what the first reel of the stack begins with, after a read of it gave no record. Looks at
+/// the reel over a connection of its own.
+fn front_of<R: ClientSystem>(rt: &R, line: &ReadLine<'_>) -> SilentFront
     requires { IsReadLine line.now }
 {
     let mut peer = SocketPeer::new(rt, line.to, line.timeout);
     match look_at_reel(rt.alloc(), &mut peer, line.device.as_bytes()) {
-        Ok(ReelFront::Empty) => true,
-        _ => false,
+        Ok(ReelFront::Empty) => SilentFront::Empty,
+        Ok(ReelFront::Mark) => SilentFront::Mark,
+        _ => SilentFront::Undetermined,
     }
 }
 
@@ -130,13 +147,14 @@ fn has_no_reel(read: Result<(), ReadFault>) -> bool {
     }
 }
 
-/// Reports what was received, and returns how the read ended. `failure` is the system's error, if
-/// the connection failed with one.
+/// Reports what was received, and returns how the read ended. `front` is what the reel begins with
+/// if it gave no record. `failure` is the system's error, if the connection failed with one.
 fn report_volume<R: ClientSystem, T: Write + Drop>(
     rt: &R,
     line: &ReadLine<'_>,
     read: Result<(), ReadFault>,
     sink: &mut ReadSink<'_, R, T>,
+    front: Option<SilentFront>,
     failure: Option<&io::Error>,
 ) -> ReadEnd {
     if has_come(line, sink.found()) {
@@ -144,7 +162,7 @@ fn report_volume<R: ClientSystem, T: Write + Drop>(
     }
     let is_foreign = is_foreign(sink.found(), read);
     if is_foreign {
-        let _ = eprintln!(rt; "not a volume of rdump");
+        report_foreign(rt, line, front);
     }
     if let Some(Found::OtherDump(label)) = sink.found() {
         return report_other(rt, line.to, label);
@@ -194,6 +212,21 @@ fn is_foreign(found: Option<&Found>, read: Result<(), ReadFault>) -> bool {
     }
 }
 
+/// Prints that the first reel of the drive does not have a volume, and what it begins with. `front`
+/// is what it begins with if it gave no record.
+fn report_foreign<R: ClientSystem>(rt: &R, line: &ReadLine<'_>, front: Option<SilentFront>) {
+    let what = match front {
+        None => "it begins with a record that is no label",
+        Some(SilentFront::Empty) => "it is empty",
+        Some(SilentFront::Mark) => "it begins with a mark",
+        Some(SilentFront::Undetermined) => "it is empty, or begins with a mark",
+    };
+    let (to, device) = (plain(line.to), plain(line.device));
+    let _ = eprintln!(rt;
+        "rdump: {to}: the first reel of {device} is not a volume of rdump: {what}"
+    );
+}
+
 /// Prints how many blocks were read, and of how many bytes.
 fn report_sizes<R: ClientSystem>(rt: &R, sizes: BlockSizes) {
     let BlockSizes {
@@ -232,7 +265,7 @@ fn end_of<R: ClientSystem>(
     match (read, fault) {
         (Ok(()), None) => return ReadEnd::Whole,
         (_, Some(fault)) => report_sink_fault(rt, line, fault),
-        (Err(fault), None) => report_read(rt, line.to, fault, failure),
+        (Err(fault), None) => report_read(rt, line, fault, failure),
     }
     ReadEnd::Failed
 }
@@ -252,17 +285,38 @@ fn report_sink_fault<R: ClientSystem>(rt: &R, line: &ReadLine<'_>, fault: &SinkF
     }
 }
 
-/// Prints why a volume was not read whole from the server with the address `to`, with the system's
-/// error `failure` if there is one.
-fn report_read<R: ClientSystem>(rt: &R, to: &str, fault: ReadFault, failure: Option<&io::Error>) {
+/// Prints why a volume was not read whole, with the system's error `failure` if there is one. After
+/// a refused request also prints what the refusal means.
+fn report_read<R: ClientSystem>(
+    rt: &R,
+    line: &ReadLine<'_>,
+    fault: ReadFault,
+    failure: Option<&io::Error>,
+) {
     match (fault, failure) {
         (ReadFault::ConnectionEnded, Some(error)) => {
-            report_failed(rt, to, error, ExitStatus::Abnormal);
+            report_failed(rt, line.to, error, ExitStatus::Abnormal);
+        }
+        (ReadFault::Refused { asked, number }, _) => {
+            let to = plain(line.to);
+            let refusal = Refusal::new(request_named(asked), number, line.device);
+            let _ = eprintln!(rt; "rdump: {to}: {fault}: {refusal}");
         }
         _ => {
-            let to = plain(to);
+            let to = plain(line.to);
             let _ = eprintln!(rt; "rdump: {to}: {fault}");
         }
+    }
+}
+
+/// Returns the request of a read that a server may refuse.
+fn request_named(asked: VolumeRequest) -> RefusedRequest {
+    match asked {
+        VolumeRequest::Open => RefusedRequest::Open,
+        VolumeRequest::Rewind => RefusedRequest::Rewind,
+        VolumeRequest::Read => RefusedRequest::Read,
+        VolumeRequest::Offline => RefusedRequest::Offline,
+        VolumeRequest::Close => RefusedRequest::Close,
     }
 }
 

@@ -4,6 +4,7 @@ ghost use Rattle.exit_status.specs.declared.status.ExitStatus.TheVariants.{Start
 
 use exit_status::ExitStatus;
 use printable::plain;
+use std::fmt::Display;
 use std::io;
 
 /// The message for a file that should be a dumpdates file.
@@ -20,6 +21,24 @@ pub fn print_fault<R: Eprint>(rt: &R, what: &str, why: &str) -> ExitStatus
     let what = plain(what);
     let _ = eprintln!(rt; "rdump: {what}: {why}");
     ExitStatus::StartupError
+}
+
+/// Prints on standard error that a file is no dumpdates file, and what is wrong with its first bad
+/// line if `line` says so. Returns `StartupError`.
+pub fn report_no_dates<R: Eprint, L: Display + Drop>(
+    rt: &R,
+    path: &str,
+    line: Option<L>,
+) -> ExitStatus
+    // Returns `StartupError`.
+    ensures { result ≡ StartupError }
+{
+    let status = print_fault(rt, path, NO_DUMPDATES);
+    if let Some(line) = line {
+        let path = plain(path);
+        let _ = eprintln!(rt; "rdump: {path}: {line}");
+    }
+    status
 }
 
 /// Prints an error on standard error, and returns `StartupError`. If an allocation failed, prints

@@ -11,8 +11,8 @@ mod system;
 mod terminal;
 
 pub use fault::{
-    NO_DUMPDATES, NO_SUMS, print_fault, report, report_failed, report_failures, report_no_memory,
-    report_unwritten,
+    NO_DUMPDATES, NO_SUMS, print_fault, report, report_failed, report_failures, report_no_dates,
+    report_no_memory, report_unwritten,
 };
 pub use system::ClientSystem;
 pub use terminal::may_be_terminal;

@@ -18,20 +18,25 @@ mod lock;
 mod look;
 mod moving;
 mod refusal;
+mod refused_opens;
 mod report;
 
 use crate::{FileMedium, FolderSystem, Log, NoLog};
 use drive_state::{FolderDriveState, OpenedReel};
-use drives::{DriveFault, Stacks};
+use drives::{DriveFault, OpenRefusal, Stacks};
 use known::FileId;
 use look::{clash_of, look_at, look_at_next, look_between};
 use moving::Moved;
 use refusal::Refusal;
+pub use refused_opens::RefusedOpens;
 use std::alloc::{AllocError, Global};
 use std::fs::File;
 use std::io::{self, ErrorKind};
 use std::marker::Model;
 use tape::FileReel;
+
+/// The end of the log line of an open that finds no reel on the stack.
+const NO_REEL: &str = ": put one into its folder";
 
 /// The name of a drive and the folder of its stack.
 #[derive(Clone, Copy)]
@@ -63,6 +68,7 @@ pub struct FolderFault<'a> {
 pub struct FolderStacks<R: FolderSystem, L: Log + Drop> {
     rt: R,
     log: L,
+    refused_opens: RefusedOpens,
     drives: Vec<FolderDriveState>,
     bin: String,
     capacity: u64,
@@ -126,6 +132,7 @@ impl<R: FolderSystem, L: Log + Drop> FolderStacks<R, L> {
         Ok(FolderStacks {
             rt,
             log,
+            refused_opens: RefusedOpens::new(),
             drives,
             bin,
             capacity,
@@ -196,12 +203,14 @@ impl<R: FolderSystem, L: Log + Drop> FolderStacks<R, L> {
         let chosen = &self.drives[drive];
         match chosen.find(&self.rt, self.bin.as_str(), &self.log) {
             Ok(Some(found)) => {
+                self.refused_opens.clear();
                 chosen.opened(&found).write_to(&self.log);
                 Ok(Some(found))
             }
             Ok(None) => Ok(None),
             Err(refusal) => {
-                chosen.refused(&refusal).write_to(&self.log);
+                self.refused_opens
+                    .write(&chosen.refused(&refusal), &self.log);
                 Err(refusal.reason)
             }
         }
@@ -336,16 +345,17 @@ impl<R: FolderSystem, L: Log + Drop> Stacks for FolderStacks<R, L> {
     /// Syncs the file and locks the bin's folder. Then a hard link, which never replaces anything,
     /// gives the file its name in the bin, and the lock is released. After that the bin's folder is
     /// synced, the name in the stack is removed, and the stack's folder is synced before this
-    /// returns. If a folder cannot be synced, the file is moved all the same. On a file system
-    /// without hard links, the file is renamed. It allocates nothing, and never fails with
+    /// returns. If the stack's folder cannot be synced, the file is moved all the same. On a file
+    /// system without hard links, the file is renamed. It allocates nothing, and never fails with
     /// `OutOfMemory`.
     ///
     /// Fails with `NameTaken` if the bin has that name, and with `Device`. `Device` is also
     /// returned if
     /// - no reel is latched,
     /// - others hold the lock of the bin's folder for about a second,
-    /// - the name in the stack now belongs to another file than was latched, or
-    /// - a sync of the file has failed since it was last truncated to zero length.
+    /// - the name in the stack now belongs to another file than was latched,
+    /// - a sync of the file has failed since it was last truncated to zero length, or
+    /// - the bin's folder cannot be synced, and the move could be undone.
     fn offline(
         &mut self,
         drive: usize,
@@ -362,7 +372,12 @@ impl<R: FolderSystem, L: Log + Drop> Stacks for FolderStacks<R, L> {
     }
 
     fn note(&self, line: &str) {
+        self.refused_opens.clear();
         self.log.note(line);
+    }
+
+    fn note_refused(&self, name: &[u8], why: OpenRefusal) {
+        self.refused_opens.log(&self.log, name, why, NO_REEL);
     }
 
     ghost single = { λ _ _ _ told _. absurd told };

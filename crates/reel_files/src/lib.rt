@@ -20,7 +20,7 @@ mod syncs;
 mod system;
 
 pub use file_medium::FileMedium;
-pub use folder::{FolderDrive, FolderFault, FolderStacks};
+pub use folder::{FolderDrive, FolderFault, FolderStacks, RefusedOpens};
 pub use log::{Log, NoLog};
 pub use syncs::{MovableFile, Syncs, sync_at_close, take_offline};
 pub use system::FolderSystem;

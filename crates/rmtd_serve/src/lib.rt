@@ -29,6 +29,7 @@ mod incoming;
 mod line_start;
 mod listener_setup;
 mod listening;
+mod logged_stacks;
 mod many;
 mod memory_server;
 mod names_table;

@@ -20,8 +20,8 @@ use std::rt::Clock;
 ///
 /// Each connection finds the reels as the one before left them. A connection that ended within a
 /// request, or failed, counts too. The log has a line for the end of each.
-pub fn serve_connections<'a, C: Clock, L: Log + Drop>(
-    server: &mut MemoryServer,
+pub fn serve_connections<'a, C: Clock, L: Log + Drop, M: Log>(
+    server: &mut MemoryServer<'_, M>,
     connections: Connections<'a, C, L>,
 ) -> Connections<'a, C, L>
     // The reels are unchanged between one served connection and the next. For each connection, the
@@ -46,8 +46,8 @@ pub fn serve_connections<'a, C: Clock, L: Log + Drop>(
 }
 
 /// Serves the streams of connection `number`, logs how it ended, and closes it.
-fn serve_stream<L: Log>(
-    server: &mut MemoryServer,
+fn serve_stream<L: Log, M: Log>(
+    server: &mut MemoryServer<'_, M>,
     input: Stream<TcpStream>,
     output: Stream<TcpStream>,
     number: u64,

@@ -5,9 +5,11 @@ ghost use Rattle.rmt_server.specs.Stream.{streams, streams_kind};
 ghost use Rattle.rmtd_serve.specs.Stdio.{blank_session_view};
 ghost use Rattle.rmtd_serve.specs.Serving.{IsServedNext};
 
+use crate::logged_stacks::LoggedStacks;
 use crate::session_fault::SessionFault;
 use crate::tape_server::TapeServer;
 use drives::ListStacks;
+use reel_files::{Log, NoLog};
 use rmt_server::Served;
 use rmt_wire::Counted;
 use std::alloc::{AllocError, Global};
@@ -23,13 +25,14 @@ const REEL: &[u8] = b"reel";
 /// A drive `/dev/st0` with a reel in memory, which serves one stream after the other.
 ///
 /// Contracts describe its reels: those on the stack and those in the bin. Between two streams no
-/// session holds the drive.
+/// session holds the drive. Its log has a line for each open that is refused, but for equal ones
+/// in a row.
 #[derive(Drop)]
-pub struct MemoryServer {
-    server: TapeServer<ListStacks>,
+pub struct MemoryServer<'l, L: Log> {
+    server: TapeServer<LoggedStacks<'l, ListStacks, L>>,
 }
 
-impl Model for MemoryServer {
+impl<'l, L: Log> Model for MemoryServer<'l, L> {
     ghost use Rattle.drives.specs.TapeLibrary.{TapeLibrary};
     ghost use Rattle.drives.specs.ListLibrary.{library_of};
     ghost use Rattle.rmtd_serve.specs.Serving.{IsAtRest};
@@ -41,14 +44,30 @@ impl Model for MemoryServer {
     ghost invariant = { λ s. IsAtRest s.server };
 }
 
-impl MemoryServer {
+impl MemoryServer<'static, NoLog> {
     /// Makes a server with one drive and one empty reel, which has room for `capacity` bytes. The
-    /// reel is named `reel`. Fails only if an allocation fails.
-    pub fn new(alloc: Global, capacity: u64) -> Result<MemoryServer, AllocError>
+    /// reel is named `reel`. The server has no log. Fails only if an allocation fails.
+    pub fn new(alloc: Global, capacity: u64) -> Result<MemoryServer<'static, NoLog>, AllocError>
         // The new server has one drive with one empty reel of the given capacity, and an empty bin.
         ensures { IfOk result (λ s. s ≡ (blank_session_view capacity).library) }
     {
+        MemoryServer::with_log(alloc, capacity, &NoLog)
+    }
+}
+
+impl<'l, L: Log> MemoryServer<'l, L> {
+    /// Makes a server that logs refused opens. Its log is `log`. All else is as in `new`.
+    pub fn with_log(
+        alloc: Global,
+        capacity: u64,
+        log: &'l L,
+    ) -> Result<MemoryServer<'l, L>, AllocError>
+        // The new server has one drive with one empty reel of the given capacity, and an empty bin,
+        // whatever the log is. `new` calls `with_log` with a log that keeps nothing.
+        ensures { IfOk result (λ s. s ≡ (blank_session_view capacity).library) }
+    {
         let stacks = one_reel(alloc, capacity)?;
+        let stacks = LoggedStacks::new(stacks, log);
         let server = TapeServer::new(alloc, 1, stacks)?;
         Ok(MemoryServer { server })
     }
@@ -75,6 +94,7 @@ impl MemoryServer {
         ensures { IsServedNext (streams_kind R.remaining W.contents) self.old self.new
             (streams input.old output.old) (streams input.new output.new) result }
     {
+        self.server.stacks().begin_session();
         self.server.serve(input, output)
     }
 }

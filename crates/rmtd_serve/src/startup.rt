@@ -374,7 +374,8 @@ fn listen<R: ServerSystem>(
 ) -> io::Result<ExitStatus>
     ensures { IfOk result (λ status. (status ≡ Ended) ⊎ (status ≡ Failed)) }
 {
-    let mut server = MemoryServer::new(rt.alloc(), line.capacity)?;
+    let refusals = log_of(rt, start);
+    let mut server = MemoryServer::with_log(rt.alloc(), line.capacity, &refusals)?;
     let log = log_of(rt, start);
     let listener = bind(rt, address, &log)?;
     log.note(if line.bin.is_some() {

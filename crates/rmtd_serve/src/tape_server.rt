@@ -53,6 +53,11 @@ impl<S: Stacks + Drop> TapeServer<S> {
         Ok(TapeServer { alloc, drives })
     }
 
+    /// Returns the stacks.
+    pub(crate) fn stacks(&self) -> &S {
+        &self.drives.stacks
+    }
+
     /// Serves one stream in a new session, and releases the drive when the session ends. Returns
     /// how the stream ended.
     ///

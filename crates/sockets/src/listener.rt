@@ -20,6 +20,9 @@ const TRIES: u32 = 10;
 /// The pause between two of these tries, in milliseconds.
 const PAUSE: u64 = 100;
 
+/// The reason if the path has something else than a socket.
+const NO_SOCKET: &str = "a file that is no socket is there";
+
 /// A listener at a host and a port, or at the path of a Unix socket.
 #[derive(Drop)]
 pub enum Listener {
@@ -62,7 +65,8 @@ impl Listener {
     /// for the lock.
     ///
     /// Fails with the system's error. It is `AddrInUse` if something is at the path that is not
-    /// replaced. Fails with `WouldBlock` if another process has the lock.
+    /// replaced; if that is no socket, the error says so instead of the system's words. Fails with
+    /// `WouldBlock` if another process has the lock.
     pub fn bind<R>(rt: &R, address: &str) -> io::Result<Listener>
     where
         R: Files<File = File> + Net<Listener = TcpListener, Stream = TcpStream> + Clock,
@@ -104,8 +108,8 @@ impl Listener {
 fn bind_path<R: Files<File = File> + Net + Clock>(rt: &R, path: &str) -> io::Result<UnixListener> {
     let _folder = locked_folder(rt, path)?;
     match UnixListener::bind(rt, path) {
-        Err(why) if why.kind() == ErrorKind::AddrInUse && is_left(rt, path) => {
-            fs::remove_file(rt, path)?;
+        Err(why) if why.kind() == ErrorKind::AddrInUse => {
+            remove_left(rt, path, why)?;
             UnixListener::bind(rt, path)
         }
         bound => bound,
@@ -144,13 +148,22 @@ fn lock<R: Clock>(rt: &R, folder: &File) -> io::Result<()> {
     ))
 }
 
-/// Whether a socket file is at this path at which nobody listens.
-fn is_left<R: Files + Net>(rt: &R, path: &str) -> bool {
+/// Removes a socket file at which nobody listens. Fails with `why` if somebody listens at this
+/// path, and with `AddrInUse` if something else than a socket is there.
+fn remove_left<R: Files + Net>(rt: &R, path: &str, why: io::Error) -> io::Result<()> {
     match fs::symlink_metadata(rt, path) {
-        Ok(found) if found.file_type().is_socket() => match UnixStream::connect(rt, path) {
-            Err(why) => why.kind() == ErrorKind::ConnectionRefused,
-            Ok(_) => false,
-        },
-        _ => false,
+        Ok(found) if !found.file_type().is_socket() => {
+            Err(io::Error::new(ErrorKind::AddrInUse, NO_SOCKET))
+        }
+        Ok(_) if is_refused(rt, path) => fs::remove_file(rt, path),
+        _ => Err(why),
+    }
+}
+
+/// Whether the socket at this path refuses connections.
+fn is_refused<R: Net>(rt: &R, path: &str) -> bool {
+    match UnixStream::connect(rt, path) {
+        Err(why) => why.kind() == ErrorKind::ConnectionRefused,
+        Ok(_) => false,
     }
 }

@@ -51,7 +51,7 @@ impl World {
     pub fn new(alloc: Global, drives: &[DriveSpec<'_>]) -> Result<World, AllocError>
         requires { AreGoodDrives (map plain_drive_spec drives.now) }
         // Returns a world with the given drives and nothing else. All reels of the drives are
-        // empty. The call fails only if an allocation fails.
+        // empty.
         ensures { IfOk result (λ w. w ≡ first_world (map plain_drive_spec drives.now)) }
     {
         let world_state = WorldState::new(alloc, drives)?;

@@ -9,7 +9,7 @@ ghost use Rattle.reel_files.specs.Folders.{folder_row};
 use super::FolderDrive;
 use super::known::InBin;
 use super::listing::{Opened, open_first};
-use super::moving::{Latched, MoveFlaw, Moved, ReelFile, finish_move};
+use super::moving::{Latched, MoveFlaw, Moved, NameLeft, ReelFile, finish_move};
 use super::refusal::Refusal;
 use super::report::Report;
 use crate::{FileMedium, FolderSystem, Log, Syncs, sync_at_close, take_offline};
@@ -297,7 +297,12 @@ fn add_flaw(report: &mut Report, flaw: Option<MoveFlaw>) {
         Some(MoveFlaw::Unsynced(reason)) => {
             report.add_warning(format_args!(", folder sync failed: {reason}"));
         }
-        Some(MoveFlaw::NameLeft(reason)) => {
+        Some(MoveFlaw::NameLeft(NameLeft::Unsynced(reason))) => {
+            report.add_warning(format_args!(
+                ", its name in the stack was kept: the bin could not be synced: {reason}"
+            ));
+        }
+        Some(MoveFlaw::NameLeft(NameLeft::NotRemoved(reason))) => {
             report.add_warning(format_args!(
                 ", its name in the stack could not be removed: {reason}"
             ));

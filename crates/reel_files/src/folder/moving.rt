@@ -67,14 +67,33 @@ impl<R: FolderSystem> MovableFile for Latched<'_, R> {
     }
 }
 
+/// Why a file that is in the bin still has its name in the stack too.
+#[derive(Clone, Copy)]
+pub(super) enum NameLeft {
+    /// The bin's folder could not be synced. So the name in the stack was kept.
+    Unsynced(io::Error),
+    /// The name in the stack could not be removed.
+    NotRemoved(io::Error),
+}
+
+impl NameLeft {
+    /// Returns the failure of the call that left the name.
+    fn refusal(self, file: &ReelFile, bin: &str) -> Refusal {
+        match self {
+            NameLeft::Unsynced(reason) => Refusal::new(bin, "sync", reason),
+            NameLeft::NotRemoved(reason) => Refusal::new(file.from.as_str(), "remove", reason),
+        }
+    }
+}
+
 /// A problem that remains after a successful move, with its reason.
 #[derive(Clone, Copy)]
 pub(super) enum MoveFlaw {
-    /// One of the folders could not be synced.
+    /// The stack's folder could not be synced. After a rename it is one of the folders.
     Unsynced(io::Error),
-    /// The file still has its name in the stack too. That name could not be removed, and neither
-    /// could the name in the bin. The next latch removes it first.
-    NameLeft(io::Error),
+    /// The file still has its name in the stack too, and the name in the bin could not be removed.
+    /// The next latch removes the name in the stack first.
+    NameLeft(NameLeft),
 }
 
 /// The outcome of a move that did not fail.
@@ -146,60 +165,82 @@ fn move_file<R: FolderSystem>(
     at(bin, "lock", wait_for_lock(rt, &folders.bin))?;
     at(from, "stat", look_again(rt, file))?;
     match fs::hard_link(rt, from, to) {
-        Ok(()) => leave_linked(rt, file, &folders),
+        Ok(()) => leave_linked(rt, file, bin, &folders),
         Err(error) if error.kind() == ErrorKind::AlreadyExists => {
             // A network file system can report that a link exists which it has just made itself.
             match at(to, "stat", look_in_bin(rt, to, file.id))? {
-                InBin::SameFile => leave_linked(rt, file, &folders),
+                InBin::SameFile => leave_linked(rt, file, bin, &folders),
                 InBin::Another | InBin::Nothing => Ok(Moved::NameTaken),
             }
         }
-        Err(error) if makes_no_links(&error) => rename_file(rt, file, &folders),
+        Err(error) if makes_no_links(&error) => rename_file(rt, file, bin, &folders),
         Err(error) => Err(Refusal::new(from, "link", error)),
     }
 }
 
-/// Finishes a move after the link was made. If the name in the stack cannot be removed, it removes
-/// the link and fails. If that is not possible either, the file is in the bin and the move succeeds
-/// with a flaw.
+/// Finishes a move after the link was made. If the bin's folder cannot be synced, or the name in
+/// the stack cannot be removed, it removes the link and fails. If that is not possible either, the
+/// file is in the bin and the move succeeds with a flaw.
 fn leave_linked<R: FolderSystem>(
     rt: &R,
     file: &ReelFile,
+    bin: &str,
     folders: &Folders,
 ) -> Result<Moved, Refusal> {
     // Others need not wait for the syncs: they cannot replace what is in the bin.
     let _ = folders.bin.unlock();
-    let reason = match leave_stack(rt, file, folders) {
-        Ok(unsynced) => return Ok(Moved::Done(unsynced)),
-        Err(reason) => reason,
+    let left = match leave_stack(rt, file, folders) {
+        Ok(flaw) => return Ok(Moved::Done(flaw)),
+        Err(left) => left,
     };
     if undo_link(rt, file).is_err() {
-        return Ok(Moved::Done(Some(MoveFlaw::NameLeft(reason))));
+        return Ok(Moved::Done(Some(MoveFlaw::NameLeft(left))));
     }
     let _ = folders.bin.sync_all();
-    Err(Refusal::new(file.from.as_str(), "remove", reason))
+    Err(left.refusal(file, bin))
 }
 
 /// Removes the name in the stack of a file that is in the bin. It syncs the bin's folder before, so
-/// that a power loss leaves one of the two names, and the stack's folder after. Returns the reason
-/// if one of them could not be synced. Fails if the name could not be removed, or if the bin does
-/// not have the file.
+/// that a power loss leaves one of the two names, and the stack's folder after. Returns the flaw if
+/// the stack's folder could not be synced, or if the file system syncs no folders.
+///
+/// Fails if the bin's folder could not be synced, if the name could not be removed, or if the bin
+/// does not have the file. The name in the stack is not removed then.
 fn leave_stack<R: FolderSystem>(
     rt: &R,
     file: &ReelFile,
     folders: &Folders,
-) -> io::Result<Option<MoveFlaw>> {
-    let bin_synced = folders.bin.sync_all();
+) -> Result<Option<MoveFlaw>, NameLeft> {
+    let flaw = match sync_bin(folders) {
+        Ok(flaw) => flaw,
+        Err(reason) => return Err(NameLeft::Unsynced(reason)),
+    };
+    match remove_moved(rt, file) {
+        Ok(()) => Ok(flaw.or(flaw_of(folders.stack.sync_all()))),
+        Err(reason) => Err(NameLeft::NotRemoved(reason)),
+    }
+}
+
+/// Syncs the bin's folder after the file got its name there. A file system that syncs no folders
+/// (`EINVAL`) does not stop the move, and is returned as its flaw.
+fn sync_bin(folders: &Folders) -> io::Result<Option<MoveFlaw>> {
+    match folders.bin.sync_all() {
+        Ok(()) => Ok(None),
+        Err(reason) if reason.kind() == ErrorKind::InvalidInput => {
+            Ok(Some(MoveFlaw::Unsynced(reason)))
+        }
+        Err(reason) => Err(reason),
+    }
+}
+
+/// Removes the file's name from the stack, if the file still has that name. Fails also if the bin
+/// does not have the file.
+fn remove_moved<R: FolderSystem>(rt: &R, file: &ReelFile) -> io::Result<()> {
     if look_in_bin(rt, file.to.as_str(), file.id)? != InBin::SameFile {
         return Err(io::Error::from(ErrorKind::StaleNetworkFileHandle));
     }
-    remove_name(rt, file)?;
-    let stack_synced = folders.stack.sync_all();
-    Ok(flaw_of(bin_synced.and(stack_synced)))
-}
-
-/// Removes the file's name from the stack, if the file still has that name.
-fn remove_name<R: FolderSystem>(rt: &R, file: &ReelFile) -> io::Result<()> {
+    // The system cannot compare and remove in one call. So the last look comes directly before the
+    // removal, and another file that takes the name between the two is removed.
     let from = file.from.as_str();
     match known_at(rt, from)? {
         Some(known) if file.id.is_same_file(&known) => fs::remove_file(rt, from),
@@ -213,10 +254,12 @@ fn remove_name<R: FolderSystem>(rt: &R, file: &ReelFile) -> io::Result<()> {
 /// Fails if the file is in the bin afterwards.
 fn undo_link<R: FolderSystem>(rt: &R, file: &ReelFile) -> io::Result<()> {
     let to = file.to.as_str();
+    let here = known_at(rt, file.from.as_str());
+    // The look at the name comes directly before its removal.
     let Some(there) = known_at(rt, to)? else {
         return Ok(());
     };
-    match known_at(rt, file.from.as_str())? {
+    match here? {
         Some(here) if FileId::of(&here).is_same_file(&there) => fs::remove_file(rt, to),
         _ if file.id.is_same_file(&there) => Err(io::Error::from(ErrorKind::NotFound)),
         _ => Ok(()),
@@ -224,13 +267,17 @@ fn undo_link<R: FolderSystem>(rt: &R, file: &ReelFile) -> io::Result<()> {
 }
 
 /// Moves the file by one rename, if nothing in the bin has its name. It syncs the bin's folder
-/// after that, then the stack's.
+/// after that, then the stack's. If the bin's folder cannot be synced, it renames the file back and
+/// fails.
 fn rename_file<R: FolderSystem>(
     rt: &R,
     file: &ReelFile,
+    bin: &str,
     folders: &Folders,
 ) -> Result<Moved, Refusal> {
     let (from, to) = (file.from.as_str(), file.to.as_str());
+    at(from, "stat", look_again(rt, file))?;
+    // The look at the name in the bin comes directly before the rename, which would replace a file.
     if at(to, "stat", known_at(rt, to))?.is_some() {
         return Ok(Moved::NameTaken);
     }
@@ -238,12 +285,46 @@ fn rename_file<R: FolderSystem>(
     // Others need not wait for the syncs. The bin's sync comes first, so that at least one folder
     // has the name.
     let _ = folders.bin.unlock();
-    let bin_synced = folders.bin.sync_all();
-    let stack_synced = folders.stack.sync_all();
-    Ok(Moved::Done(flaw_of(bin_synced.and(stack_synced))))
+    match sync_bin(folders) {
+        Ok(flaw) => Ok(Moved::Done(flaw.or(flaw_of(folders.stack.sync_all())))),
+        Err(reason) => leave_unsynced(rt, file, bin, folders, reason),
+    }
 }
 
-/// Returns the flaw of a move whose folders could not be synced.
+/// Renames the file back, because the bin's folder could not be synced for this reason, and fails
+/// with that. If the file cannot be renamed back, the move succeeds with a flaw.
+fn leave_unsynced<R: FolderSystem>(
+    rt: &R,
+    file: &ReelFile,
+    bin: &str,
+    folders: &Folders,
+    reason: io::Error,
+) -> Result<Moved, Refusal> {
+    if undo_rename(rt, file).is_err() {
+        // The stack's folder is not synced: the disk may have the name only there.
+        return Ok(Moved::Done(Some(MoveFlaw::Unsynced(reason))));
+    }
+    let _ = folders.stack.sync_all();
+    let _ = folders.bin.sync_all();
+    Err(Refusal::new(bin, "sync", reason))
+}
+
+/// Renames the file back to its name in the stack, if nothing has that name. Fails if the file has
+/// not that name afterwards.
+fn undo_rename<R: FolderSystem>(rt: &R, file: &ReelFile) -> io::Result<()> {
+    let (from, to) = (file.from.as_str(), file.to.as_str());
+    if look_in_bin(rt, to, file.id)? != InBin::SameFile {
+        return Err(io::Error::from(ErrorKind::StaleNetworkFileHandle));
+    }
+    // The look at the name in the stack comes directly before the rename, which would replace a
+    // file.
+    match known_at(rt, from)? {
+        None => fs::rename(rt, to, from),
+        Some(_) => Err(io::Error::from(ErrorKind::AlreadyExists)),
+    }
+}
+
+/// Returns the flaw of a move whose stack's folder was synced with this result.
 fn flaw_of(synced: io::Result<()>) -> Option<MoveFlaw> {
     match synced {
         Ok(()) => None,
@@ -260,9 +341,8 @@ pub(super) fn finish_move<R: FolderSystem>(
     bin: &str,
 ) -> Result<Option<MoveFlaw>, Refusal> {
     let folders = open_folders(rt, stack, bin)?;
-    at(
-        file.from.as_str(),
-        "remove",
-        leave_stack(rt, file, &folders),
-    )
+    match leave_stack(rt, file, &folders) {
+        Ok(flaw) => Ok(flaw),
+        Err(left) => Err(left.refusal(file, bin)),
+    }
 }

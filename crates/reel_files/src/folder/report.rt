@@ -40,6 +40,11 @@ impl Report {
         self.is_warning = true;
     }
 
+    /// Returns the text of the line.
+    pub(super) fn text(&self) -> &str {
+        self.line.as_str()
+    }
+
     /// Writes the report to the log.
     pub(super) fn write_to<L: Log>(&self, log: &L) {
         if self.is_warning {

@@ -14,7 +14,7 @@ ghost use Rattle.rmt_server.specs.Opening.{LaysBack, IsClosed, Closes, OpensFor,
 use crate::access::Access;
 use crate::refusal::Refusal;
 use crate::session::{Opened, SessionState};
-use drives::{DriveTable, Holds, Stacks};
+use drives::{DriveTable, Holds, OpenRefusal, Stacks};
 use tape::Reel;
 
 /// Rewinds the reel and lays it on its stack. Does nothing if the reel is in the bin.
@@ -63,7 +63,7 @@ pub(crate) fn close_opened<H: Holds, S: Stacks>(
 }
 
 /// Takes the drive with that name, latches its first reel, and returns 0. Nothing may be open
-/// before.
+/// before. The stacks are told why an open is refused, for their log.
 fn open_named<H: Holds, S: Stacks>(
     drives: &mut DriveTable<H, S>,
     session_state: &mut SessionState<H::Seat, S::Reel>,
@@ -77,6 +77,9 @@ fn open_named<H: Holds, S: Stacks>(
     ensures number { IfOk result (λ n. n ≡ 0) }
 {
     let Some(access) = Access::of(mode) else {
+        drives
+            .stacks
+            .note_refused(device, OpenRefusal::BadMode(mode));
         return Err(Refusal::Invalid);
     };
     match drives.open(&mut session_state.seat, device) {
@@ -88,7 +91,12 @@ fn open_named<H: Holds, S: Stacks>(
             });
             Ok(0)
         }
-        Err(fault) => Err(Refusal::of_drive(fault)),
+        Err(fault) => {
+            drives
+                .stacks
+                .note_refused(device, OpenRefusal::Drive(fault));
+            Err(Refusal::of_drive(fault))
+        }
     }
 }
 

@@ -1,0 +1,82 @@
+//! The refusal of a request, in words.
+ghost use Rattle.std.specs.Prelude.{◌≡◌, IfSome};
+ghost use Rattle.std.specs.Fmt.{WritesOnOk};
+ghost use Rattle.refusals.specs.Row.{IsRowOf, drive_text, row_text};
+ghost use Rattle.refusals.specs.Refusal.{refusal_text};
+
+use crate::request::RefusedRequest;
+use crate::row::Row;
+use crate::table::find_row;
+use printable::plain;
+use std::fmt::{self, Display, Formatter, Write};
+use std::io;
+
+/// The refusal of a request by a server. It prints what the error means and what to do, in the
+/// words of the table. If the table has no row for it, it prints the system's text for the number.
+/// Control characters in the name of the drive are printed as `?`. Printing allocates nothing.
+#[derive(Clone, Copy)]
+pub struct Refusal<'a> {
+    /// The row of the table, if it has one.
+    pub row: Option<Row>,
+    /// The error number.
+    pub number: u32,
+    /// The name of the drive that was to be used.
+    pub device: &'a str,
+}
+
+impl<'a> Refusal<'a> {
+    /// Makes the refusal of the request `asked` with this number. If it is not known which request
+    /// was refused, it has no row.
+    pub fn new(asked: RefusedRequest, number: u32, device: &'a str) -> Refusal<'a>
+        // The refusal has the given number and the given name of the drive. If the refusal has a
+        // row, this row is for the given number, and for the given request or for each request.
+        ensures fits { IfSome result.row (IsRowOf asked number) }
+        ensures number { result.number ≡ number }
+        ensures device { result.device.now ≡ device.now }
+    {
+        Refusal {
+            row: find_row(asked, number),
+            number,
+            device,
+        }
+    }
+}
+
+impl Display for Refusal<'_> {
+    // output: A `Refusal` that has a row prints the text of the row. If this text names the drive,
+    // the name is printed as `printable::plain` prints it.
+
+    ghost output = { refusal_text };
+
+    fn fmt<W: Write>(&self, f: &mut Formatter<W>) -> fmt::Result {
+        match &self.row {
+            Some(row) => write_row(row, self.device, f),
+            None => write!(f, "{}", system_error(self.number)),
+        }
+    }
+}
+
+/// Writes the text of a row, with the name of this drive.
+fn write_row<W: Write>(row: &Row, device: &str, f: &mut Formatter<W>) -> fmt::Result
+    ensures { WritesOnOk W.write_str_gives f.old result (row_text row.now device.now) f.new }
+{
+    f.write_str(row.before)?;
+    write_drive(row.names_drive, device, f)?;
+    f.write_str(row.after)
+}
+
+/// Writes the name of this drive, if a row names the drive.
+fn write_drive<W: Write>(names_drive: bool, device: &str, f: &mut Formatter<W>) -> fmt::Result
+    ensures { WritesOnOk W.write_str_gives f.old result (drive_text names_drive device.now) f.new }
+{
+    if names_drive {
+        plain(device).fmt(f)
+    } else {
+        Ok(())
+    }
+}
+
+/// Returns the system's error of this number.
+fn system_error(number: u32) -> io::Error {
+    io::Error::from_raw_os_error(i32::try_from(number).unwrap_or(i32::MAX))
+}

@@ -1,0 +1,17 @@
+//! A row of the table.
+use crate::request::RefusedRequest;
+
+/// A row of the table: what an error number means as the answer to a request, and what to do.
+#[derive(Clone, Copy)]
+pub struct Row {
+    /// The error number.
+    pub number: u32,
+    /// The request. None means each request that has no row of its own with this number.
+    pub asked: Option<RefusedRequest>,
+    /// The text. If it names the drive, this is the part before the name.
+    pub before: &'static str,
+    /// Whether the text names the drive.
+    pub names_drive: bool,
+    /// The part of the text after the name of the drive. It is empty if the text does not name it.
+    pub after: &'static str,
+}
