@@ -5,8 +5,9 @@
 
 The packages are put in FOLDER, and their paths are printed. The programs are packed as they are: `make deb` proves and builds them first.
 The version is what the programs print, and the time and the name of the commit, so that a later commit has a later version; and
-`+changed`, if a file was changed since. The same programs at the same commit give the same bytes. Needs dpkg-deb and git, and uses
-dpkg-shlibdeps and strip if they are there.
+`+changed`, if a file was changed since; and `+unproved`, unless a note of `make build` or `make test` says of each program that these bytes were
+proved and built from the sources as they are. To know that, it asks `rt`. The same programs at the same commit give the same bytes. Needs
+dpkg-deb and git, and uses dpkg-shlibdeps and strip if they are there.
 """
 
 from __future__ import annotations
@@ -23,8 +24,12 @@ from pathlib import Path
 from typing import NamedTuple
 
 TOP = Path(__file__).resolve().parent.parent
+sys.path.insert(0, str(TOP))
+
+from tests.tools.build import below, is_noted, listed, sums_of  # noqa: E402
+
 HERE = TOP / "packaging"
-SCRIPTS = ("postinst", "prerm", "postrm")
+SCRIPTS = ("preinst", "postinst", "prerm", "postrm")
 # A package has to name a maintainer. This one is nobody.
 MAINTAINER = "those who built this package <nobody@example.org>"
 # What Debian's tools read of the changes.
@@ -121,6 +126,16 @@ def git(*command: str) -> str:
     return output("git", "-C", str(TOP), *command, env=os.environ | {"TZ": "UTC", "GIT_OPTIONAL_LOCKS": "0"})
 
 
+def unproved(programs: dict[str, Path]) -> list[str]:
+    """The programs of which no note says that they were proved, with the sources as they are. Without the kit these are all."""
+    crates = below(listed(), list(programs))
+    try:
+        sums = sums_of(crates)
+    except (OSError, subprocess.CalledProcessError):
+        return list(programs)
+    return [name for name in programs if not is_noted(crates, name, sums, lambda it: programs[it.name])]
+
+
 def build_of(programs: dict[str, Path], folder: Path) -> Build:
     """Finds the version, the architecture and the time of the commit."""
     printed = {output(str(it), "--version").split()[-1] for it in programs.values()}
@@ -129,6 +144,9 @@ def build_of(programs: dict[str, Path], folder: Path) -> Build:
     seconds, date, name = git("log", "-1", "--date=format-local:%Y%m%d%H%M%S", "--format=%ct %cd %H").split()
     changed = "+changed" if git("status", "--porcelain", "--untracked-files=no") else ""
     version = f"{printed.pop()}~git{date}.{name[:8]}{changed}"
+    if lacking := unproved(programs):
+        print(f"deb.py: the version has +unproved: no note says that these were proved as they are: {', '.join(lacking)}", file=sys.stderr)
+        version += "+unproved"
     return Build(programs, folder, version, output("dpkg", "--print-architecture"), int(seconds))
 
 
