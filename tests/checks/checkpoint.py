@@ -296,23 +296,41 @@ class WhatIsKept(CheckpointCase):
 
 
 class OtherDump(NamedTuple):
-    """What differs from the dump of a file: words, and the payload."""
+    """What differs from the dump of a file: words, and the payload. And what is told of each difference: its name, the value of the file and
+    that of the dump."""
 
     title: str
     changed: dict[str, str]
+    differences: tuple[tuple[str, str, str], ...]
     payload: bytes = PAYLOAD
+
+    def lines(self) -> str:
+        """What is told."""
+        return "".join(f"rdump: {FILE}: its {name} is {kept}, and that of this dump is {here}\n" for name, kept, here in self.differences)
 
 
 OTHER_DUMPS = (
-    OtherDump("another device", {"device": "/dev/st1"}),
-    OtherDump("a shorter device", {"device": "/dev/st"}),
-    OtherDump("a longer device", {"device": "/dev/st00"}),
-    OtherDump("another name", {"fs": "/usr2"}),
-    OtherDump("another level", {"level": "1"}),
-    OtherDump("another block size", {"block": "1500"}),
-    OtherDump("a block more", {}, PAYLOAD + b"x"),
-    OtherDump("a block less", {}, PAYLOAD[:2048]),
-    OtherDump("no block", {}, b""),
+    OtherDump("another device", {"device": "/dev/st1"}, (("device", "/dev/st0", "/dev/st1"),)),
+    OtherDump("a shorter device", {"device": "/dev/st"}, (("device", "/dev/st0", "/dev/st"),)),
+    OtherDump("a longer device", {"device": "/dev/st00"}, (("device", "/dev/st0", "/dev/st00"),)),
+    OtherDump("a device with a control character", {"device": "/dev/st\a"}, (("device", "/dev/st0", "/dev/st?"),)),
+    OtherDump("another name", {"fs": "/usr2"}, (("name", "/usr", "/usr2"),)),
+    OtherDump("another level", {"level": "1"}, (("level", "0", "1"),)),
+    OtherDump("another block size", {"block": "1500"}, (("block size", "1024", "1500"),)),
+    OtherDump("a block more", {}, (("number of blocks", "3", "4"),), PAYLOAD + b"x"),
+    OtherDump("a block less", {}, (("number of blocks", "3", "2"),), PAYLOAD[:2048]),
+    OtherDump("no block", {}, (("number of blocks", "3", "0"),), b""),
+    OtherDump(
+        "all at once",
+        {"device": "/dev/st1", "fs": "/home", "level": "2", "block": "512"},
+        (
+            ("device", "/dev/st0", "/dev/st1"),
+            ("name", "/usr", "/home"),
+            ("level", "0", "2"),
+            ("block size", "1024", "512"),
+            ("number of blocks", "3", "6"),
+        ),
+    ),
 )
 
 
@@ -344,7 +362,7 @@ class WhatIsGoneOnWith(CheckpointCase):
                 self.p.file("payload", it.payload)
                 self.p.file(FILE, text_of(RUN, counts))
                 got = self.p.run(*self.p.dump_words(NOWHERE, *KEPT, **it.changed))
-                self.ends(f"{it.title}, {len(counts)} counts", got, OF_ANOTHER, FAILED, FILE)
+                self.told(f"{it.title}, {len(counts)} counts", got, OF_ANOTHER, FAILED, it.lines())
                 self.stays(f"{it.title}, {len(counts)} counts: the file stays", text_of(RUN, counts))
 
     def test_other_bytes(self) -> None:
@@ -396,7 +414,7 @@ class WhatIsGoneOnWith(CheckpointCase):
         self.p.file("payload", b"")
         line, end = "volume 1: 0 blocks from 0\n", "dump complete: 1 volumes, 0 blocks\n"
         with Model(Reel("r1", 3100)) as model:
-            self.ends("no blocks", self.p.dump(model.address, *KEPT), line + end, DONE)
+            self.ends("no blocks", self.p.dump(model.address, *KEPT), line + end, DONE, "it is empty")
         run = RUN._replace(blocks=0)
         self.p.file(FILE, text_of(run, (Volume(1, 0, 0),)))
         self.completes("no blocks, finished", self.p.dump(NOWHERE, *KEPT), end)

@@ -26,6 +26,7 @@ from tests.lib.case import Case
 from tests.lib.drives import data_of
 from tests.lib.ended import FAILED
 from tests.lib.given import given
+from tests.lib.logs import bare
 from tests.lib.places import built
 from tests.lib.stdio_servers import Site, Talk, Turn, access, as_nobody, away, seen, site, talking
 from tests.lib.waiting import GUARD_SECONDS, soon
@@ -416,9 +417,8 @@ LINKS, UNLINKS = "link,linkat", "unlink,unlinkat"
 # What fails in a move, by what of strace, and whether the move is refused then.
 FAILING_CALLS = (
     ("the sync of the reel", f"{SYNCS}:error=EIO:when=1", True),
-    ("the sync of one folder", f"{SYNCS}:error=EIO:when=2", False),
-    ("the sync of the other folder", f"{SYNCS}:error=EIO:when=3", False),
-    ("the syncs of both folders", f"{SYNCS}:error=EIO:when=2+", False),
+    ("the sync of the bin", f"{SYNCS}:error=EIO:when=2", True),
+    ("the sync of the stack's folder", f"{SYNCS}:error=EIO:when=3", False),
     ("the move", f"{LINKS}:error=EIO:when=1", True),
     ("the removal of the old name", f"{UNLINKS}:error=EIO:when=1", True),
 )
@@ -740,7 +740,9 @@ class Starts(FolderCase):
         with site(self.rmtd, drives=2) as shop:
             how = as_nobody(shop)
             got = subprocess.run(shop.words, input=opened(), capture_output=True, check=False, timeout=GUARD_SECONDS, **how)
-            self.same("all folders are there", (got.returncode, got.stdout, got.stderr), (0, NO_REEL, b""))
+            lines = bare(self, "all folders are there", got.stderr.decode().splitlines())
+            told = ["open refused: no reel is on the stack of /dev/st0: put one into its folder"]
+            self.same("all folders are there", (got.returncode, got.stdout, lines), (0, NO_REEL, told))
 
     def test_folders_that_do_not_go_together(self) -> None:
         """They are told: one line, with a folder and what is wrong with it."""

@@ -228,6 +228,25 @@ class Dates(Case):
                 name = f"{text[-60:]!r} asked by {words}"
                 self.ends(name, self.asked(text, *words), fault.encode(), FAILED, "dumpdates: it is no dumpdates file")
 
+    def test_zone_offsets(self) -> None:
+        """dump(8) of Linux writes a zone offset after the year. That is told of the first bad line, if it is an entry without the offset."""
+        told = "line {} has a zone offset after the year, as dump(8) of Linux writes it: rdump keeps a file of its own"
+        for text, line, is_told in (
+            (f"/dev/sda1{' ' * 23} 0 {TUESDAY} +0000\n", 1, True),
+            (f"{USR_0}\n/usr 1 {WEDNESDAY} -0330\n{USR_1}", 3, True),
+            (f"/usr 0 {TUESDAY} +0000", 1, True),
+            (f"/usr 0 {TUESDAY} +000\n", 1, False),
+            (f"/usr 0 {TUESDAY} 00000\n", 1, False),
+            (f"/usr 0 {TUESDAY} +00x0\n", 1, False),
+            (f"/usr 0 {TUESDAY}+0000\n", 1, False),
+            ("/usr 0 +0000\n", 1, False),
+            (f"no entry\n/usr 0 {TUESDAY} +0000\n", 1, False),
+        ):
+            for words in WAYS:
+                got = self.asked(text, *words)
+                self.ends(f"{text!r} asked by {words}", got, f"line {line}: bad line\n".encode(), FAILED, "dumpdates: it is no dumpdates file")
+                self.same(f"{text!r} asked by {words}: the offset", told.format(line).encode() in got.told, is_told, got)
+
     def test_words_that_are_refused(self) -> None:
         self.file(USR_0, "FILE")
         for words, fault in BAD_WORDS:

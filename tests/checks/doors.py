@@ -40,6 +40,7 @@ from tests.lib.wire import DONE as ANSWERED
 from tests.lib.wire import DONE_ONE, NOTHING, NOTHING_OPEN, OFFLINE, READ, REWIND, opened, write
 
 IN_USE = "Address already in use (os error 98)"
+NO_SOCKET = "a file that is no socket is there"
 LOCKED = "another process has the lock of its folder"
 DENIED = "Permission denied (os error 13)"
 REFUSED = "Connection refused (os error 111)"
@@ -377,7 +378,7 @@ class SocketFiles(DoorCase):
             self.same("a live server goes on", (it.is_served(), process.poll()), (True, None))
             linked = it.beside("link")
             linked.path.symlink_to(it.path)
-            linked.stays("a link to a live server")
+            linked.stays("a link to a live server", NO_SOCKET)
             self.holds("a live server goes on behind a link", linked.is_served())
             os.kill(process.pid, signal.SIGSTOP)
             it.stays("a server that was stopped")
@@ -385,16 +386,17 @@ class SocketFiles(DoorCase):
             self.holds("a server that was stopped goes on", it.is_served())
 
     def test_taken(self) -> None:
-        """What lies at the path and is no socket that refuses connections stays, and the server does not start."""
+        """What lies at the path and is no socket that refuses connections stays, and the server does not start: it says that a file that is no
+        socket is there."""
         for title, make in MAKERS.items():
             with self.door() as it:
                 make(it.path)
-                it.stays(title)
+                it.stays(title, NO_SOCKET)
         with self.door("other") as it:
             it.ended_by("SIGKILL")
             linked = it.beside("link")
             linked.path.symlink_to(it.path.name)
-            linked.stays("a link to the file of a server that has ended")
+            linked.stays("a link to the file of a server that has ended", NO_SOCKET)
 
     def test_no_folder(self) -> None:
         for title, name, why in (("a missing folder", "missing/socket", ABSENT), ("a file for a folder", "file/socket", NOT_A_FOLDER)):

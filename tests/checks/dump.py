@@ -114,7 +114,7 @@ class Dumps(DumpCase):
             capacity = (blocks + 1) * (1024 + 8) + 4
             with self.p.listening("--capacity", str(capacity), "--connections", "1") as (address, server):
                 want = f"volume 1: {blocks} blocks from 0\ndump complete: 1 volumes, {blocks} blocks\n"
-                self.ends(f"a payload of {size} bytes", self.p.dump(address), want, DONE)
+                self.ends(f"a payload of {size} bytes", self.p.dump(address), want, DONE, *(() if size else ("it is empty",)))
                 self.same(f"a payload of {size} bytes: the server ends", server.wait(GUARD_SECONDS), DONE)
 
     def test_the_last_block_is_padded(self) -> None:
@@ -312,19 +312,19 @@ class Dates(DumpCase):
 
     def test_a_level_1(self) -> None:
         self.p.file("dumpdates", b"/usr 0 Mon Feb 28 00:00:00 2000\n")
-        self.ends("a level 1", self.p.dump(self.model.address, level="1"), EMPTY_VOLUME, DONE)
+        self.ends("a level 1", self.p.dump(self.model.address, level="1"), EMPTY_VOLUME, DONE, "it is empty")
         dates = b"level 1\ndate %d\nsince %d\n" % (DAY, DAY_BEFORE)
         self.holds("since is the base date", dates in self.first_record(), dates, self.first_record())
         self.same("no update, no change", self.p.text("dumpdates"), "/usr 0 Mon Feb 28 00:00:00 2000\n")
 
     def test_an_update(self) -> None:
         self.p.file("dumpdates", OLDER.encode())
-        self.ends("an update", self.p.dump(self.model.address, "--update"), EMPTY_VOLUME, DONE)
+        self.ends("an update", self.p.dump(self.model.address, "--update"), EMPTY_VOLUME, DONE, "it is empty")
         self.same("an update: the entry", self.p.text("dumpdates"), OLDER + ENTRY)
         self.same("an update: no other file", self.p.text("dumpdates.new"), None)
 
     def test_an_update_of_no_file(self) -> None:
-        self.ends("an update of no file", self.p.dump(self.model.address, "--update"), EMPTY_VOLUME, DONE)
+        self.ends("an update of no file", self.p.dump(self.model.address, "--update"), EMPTY_VOLUME, DONE, "it is empty")
         self.same("an update of no file: the entry", self.p.text("dumpdates"), ENTRY)
 
     def test_an_update_that_fails(self) -> None:
@@ -340,7 +340,7 @@ class Dates(DumpCase):
 
     def test_the_date_of_the_clock(self) -> None:
         before = int(time.time())
-        self.ends("the clock's date", self.p.dump(self.model.address, date=None), EMPTY_VOLUME, DONE)
+        self.ends("the clock's date", self.p.dump(self.model.address, date=None), EMPTY_VOLUME, DONE, "it is empty")
         date = int(given(re.search(rb"date (\d+)", self.first_record()))[1])
         self.holds("the clock's date: now", before <= date <= time.time(), before, date)
 
@@ -375,7 +375,7 @@ FAILURES = (
     Failure("no reply by the grammar", "Botched", BOTCHED, said={2: b"X\n"}),
     Failure("more than a label", "Botched", BOTCHED, said={3: b"A1025\n" + bytes(1025)}),
     Failure("an error to the look", "Refused 12", ("Refused 12",), said={3: b"E12\nmemory\n"}),
-    Failure("an error", "Refused 5", ("Refused 5", "in the bin"), said={2: b"E5\nbroken\n"}),
+    Failure("an error", "Refused 5", ("Refused 5", "the server's log has the reason"), said={2: b"E5\nbroken\n"}),
 )
 
 
@@ -606,12 +606,13 @@ class Operations(DumpCase):
         for rows in OPERATIONS:
             with self.p.listening() as (address, _):
                 for words, output, status in rows:
-                    self.ends(f"mt {words}", self.mt(address, *words.split()), output, status)
+                    faults = (f"refused with {output.split()[0]}: ",) if output.startswith("E") else ()
+                    self.ends(f"mt {words}", self.mt(address, *words.split()), output, status, *faults)
 
     def test_wrong_words(self) -> None:
         with self.p.listening() as (address, _):
             got = self.mt(address, "nop", "1", device="/dev/st9")
-            self.ends("mt on another drive", got, "E2 No such file or directory\n", ABNORMAL)
+            self.ends("mt on another drive", got, "E2 No such file or directory\n", ABNORMAL, "open refused with E2: ")
             self.fails("mt of no operation", self.mt(address, "eject", "1"), "OP")
             self.fails("mt of no count", self.mt(address, "nop"), "COUNT")
             self.fails("mt of a bad count", self.mt(address, "nop", "2147483648"), "count")

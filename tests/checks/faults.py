@@ -340,9 +340,10 @@ class Syncs(FaultCase):
             self.same("a sync that failed: the reel that was written anew is moved", anew, images([b"anew"]))
 
     def test_sync_of_a_folder_fails(self) -> None:
-        for folder in (2, 3):
-            with self.talk(f"fsync:{folder}:E5") as (_, talk):
-                talk.asks(f"the sync of a folder that failed, {folder}", (opened(), TAKEN), (write(b"data"), b"A4\n"), *MOVED)
+        """A bin that is not synced refuses that move alone, and no later one; a stack that is not synced refuses none."""
+        for name, number, moves in (("the bin", 2, ((OFFLINE, IO_ERROR), (b"R9\n", b"A4\ndata"), *MOVED)), ("the stack", 3, MOVED)):
+            with self.talk(f"fsync:{number}:E5") as (_, talk):
+                talk.asks(f"the sync of {name} that failed", (opened(), TAKEN), (write(b"data"), b"A4\n"), *moves)
 
     def test_marks_are_written_anew(self) -> None:
         with self.talk() as (_, talk):

@@ -94,7 +94,7 @@ class Levels(Case):
                 (BIN / name).write_bytes(damages(reels[name]))
                 _, printed = ran(restore)
                 unpacked = sorted(it.name for it in Path("back").rglob("*") if it.is_file())
-                self.same(f"{title} of level {level}: what is unpacked", unpacked, ["old"][:level], printed)
+                self.same(f"{title} of level {level}: what is unpacked", unpacked, ["gone", "old"] if level else [], printed)
                 others = [it for it in reels if it != name]
                 self.same(f"{title} of level {level}: the other reel is in the bin", [it for it in others if (BIN / it).exists()], others, printed)
                 self.put_back(reels)

@@ -44,7 +44,23 @@ from tests.lib.servers import (
 )
 from tests.lib.stdio_servers import access, as_nobody, site
 from tests.lib.waiting import GUARD_SECONDS, soon
-from tests.lib.wire import CLOSE, DONE, DONE_ONE, IO_ERROR, NOTHING, NOTHING_OPEN, OFFLINE, READ, REWIND, opened, write
+from tests.lib.wire import (
+    BUSY,
+    CLOSE,
+    DONE,
+    DONE_ONE,
+    INVALID,
+    IO_ERROR,
+    NO_REEL,
+    NO_SUCH_FILE,
+    NOTHING,
+    NOTHING_OPEN,
+    OFFLINE,
+    READ,
+    REWIND,
+    opened,
+    write,
+)
 from tests.models.rmtd import images
 
 # What a line is, without the time and the program's name.
@@ -55,6 +71,7 @@ FORMS = (
     r"seat (?P<begun>\d+): connection (?P<served>\d+): served",
     r"seat (?P<left>\d+): connection (?P<ended>\d+): ended: (end|truncated|UnknownCommand|BadNumber|LineTooLong|idle|stream failed)",
     r"seat \d+: /dev/st\d+: .+",
+    r"seat \d+: open refused: .+",
 )
 SMALLEST_PIPE = 4096
 IN_MEMORY = "the reel of /dev/st0 is in memory, and is gone when the server ends"
@@ -79,7 +96,8 @@ ENDINGS = (
     Ending("stream failed", NOTHING, is_reset=True),
 )
 LOCKED = "lock: another has the lock"
-SYNC_FAILED = r", folder sync failed: .+ \(os error 5\)"
+SYNC_FAILED = r"r1 moved to the bin, folder sync failed: .+ \(os error 5\)"
+BIN_UNSYNCED = r"move refused: .+/bin: sync: .+ \(os error 5\)"
 FULL_DISK = r", a read or write failed: No space left on device \(os error 28\)"
 READ_FAILED = r", a read or write failed: Input/output error \(os error 5\)"
 
@@ -228,19 +246,21 @@ class Listeners(Case):
             self.holds("a name that is no text is told", has(self, server, refused), lines_of(self, server))
 
     def test_unsynced_folders(self) -> None:
-        """A move after which a folder could not be synced is done, and told as such; and one after which both could."""
+        """A move whose bin could not be synced is refused, and told as such; one whose stack could not be is done, and told; and one whose folders
+        could both be synced."""
         if not can_trace():
             self.skipTest("it takes strace(1)")
-        for number, failed in ((2, SYNC_FAILED), (3, SYNC_FAILED), (4, "")):
+        for number, line, reply in ((2, BIN_UNSYNCED, IO_ERROR), (3, SYNC_FAILED, DONE_ONE), (4, "r1 moved to the bin", DONE_ONE)):
             with serving() as server:
-                server.reel("r1")
+                reel = server.reel("r1")
                 with talking(server) as talk:
                     talk.asks(self, f"sync {number} fails", (opened(), DONE))
                     with under_strace(self, server, "-e", "trace=fsync,fdatasync", "-e", f"inject=fsync,fdatasync:error=EIO:when={number}"):
-                        talk.asks(self, f"sync {number} fails: a move", (OFFLINE, DONE_ONE))
-                is_told = has(self, server, rf"seat \d+: /dev/st0: r1 moved to the bin{failed}")
+                        talk.asks(self, f"sync {number} fails: a move", (OFFLINE, reply))
+                is_told = has(self, server, rf"seat \d+: /dev/st0: {line}")
                 self.holds(f"sync {number} fails: it is told", is_told, lines_of(self, server))
-                self.holds(f"sync {number} fails: the reel is moved", (server.bin / "r1").is_file())
+                stands = reel.exists(), (server.bin / "r1").is_file()
+                self.same(f"sync {number} fails: where the reel is", stands, (number == 2, number != 2))
 
     def test_refused_calls(self) -> None:
         """A read or a write that the system refused is told at the reel's close, and at its move, by the last one's reason. The next open knows
@@ -303,6 +323,130 @@ class Listeners(Case):
             ends = (1, "end"), (2, "end"), (3, "UnknownCommand")
             ways = [f"connection {number}: {what}" for number, end in ends for what in (f"accepted from {ADDRESS}", f"ended: {end}")]
             self.same("in memory: the lines", as_forms(lines, [first, *ways]), [first, *ways])
+
+
+REFUSED = "open refused: "
+NO_ST9 = f"{REFUSED}there is no drive /dev/st9"
+NO_ACCESS = f"{REFUSED}the mode 3 for /dev/st0 asks for no access"
+EMPTY_STACK = f"{REFUSED}no reel is on the stack of /dev/st0"
+# Opens that are refused while the stack of `/dev/st0` is empty, with the reply and the line of each.
+REFUSALS = (
+    (opened(9), NO_SUCH_FILE, NO_ST9),
+    (opened(mode=3), INVALID, NO_ACCESS),
+    (opened(), NO_REEL, f"{EMPTY_STACK}: put one into its folder"),
+)
+# Names of drives that are not there, as they are sent and as a line has them.
+NAMES = (
+    (b"", ""),
+    (b"/dev/st00", "/dev/st00"),
+    (b"/dev/\x1b[31m\r\x07\x7f", "/dev/?[31m???"),
+    (b"/dev/\xff\xc3(st", "/dev/??(st"),
+    ("/dev/bänd".encode(), "/dev/bänd"),
+    (b"d" * 255, "d" * 255),
+)
+
+
+def refused_in(lines: Sequence[str]) -> list[str]:
+    """The lines of refused opens, without the seat."""
+    return [it[it.index(REFUSED) :] for it in lines if REFUSED in it]
+
+
+class RefusedOpens(Case):
+    """The lines of opens that are refused: each has the drive and the reason, and only the first of several equal ones in a row is written."""
+
+    def test_each_reason(self) -> None:
+        with serving() as server:
+            with talking(server) as talk:
+                talk.asks(self, "refused opens", *[(asked, reply) for asked, reply, _ in REFUSALS])
+            self.holds("refused opens: the connection has ended", has(self, server, r"seat \d+: connection 1: ended: end"))
+            lines = lines_of(self, server)
+            seat = next((it for it in lines if it.endswith("connection 1: served")), "").split(":")[0]
+            mine = [it for it in lines if it.startswith(f"{seat}: {REFUSED}")]
+            self.same("refused opens: the lines of its seat", mine, [f"{seat}: {line}" for _, _, line in REFUSALS], lines)
+
+    def test_held_drive(self) -> None:
+        """The line names the seat of the connection that holds the drive."""
+        with serving() as server:
+            server.reel("r1")
+            with talking(server) as first, talking(server) as second:
+                for number, (holder, other) in enumerate(((first, second), (second, first)), 1):
+                    title = f"a held drive, {number}"
+                    holder.asks(self, title, (opened(), DONE))
+                    other.asks(self, f"{title}: the other one", (opened(), BUSY))
+                    holder.asks(self, f"{title}: it is closed", (CLOSE, DONE))
+            for number in (1, 2):
+                self.holds(f"a held drive: connection {number} has ended", has(self, server, rf"seat \d+: connection {number}: ended: end"))
+            lines = lines_of(self, server)
+            seats = [next(it for it in lines if it.endswith(f"connection {number}: served")).split(":")[0] for number in (1, 2)]
+            self.same("a held drive: two seats", len(set(seats)), 2, lines)
+            wanted = [f"{other}: {REFUSED}/dev/st0 is held by {holder}" for holder, other in (seats, seats[::-1])]
+            self.same("a held drive: the lines", [it for it in lines if REFUSED in it], wanted, lines)
+
+    def test_repeated_opens(self) -> None:
+        """Of equal refusals in a row the first has a line. Another refusal, an open that succeeds, or another connection ends the row."""
+        missing, busy = ((opened(9), NO_SUCH_FILE),) * 40, ((opened(), IO_ERROR),) * 3
+        with serving() as server:
+            reel = server.reel("r1")
+            with talking(server) as talk:
+                talk.asks(self, "repeated opens", *missing, (opened(8), NO_SUCH_FILE), *missing)
+                talk.asks(self, "repeated opens, and one that succeeds", (opened(), DONE), (CLOSE, DONE), *missing)
+                with locked(reel):
+                    talk.asks(self, "repeated opens, locked", *busy)
+            with talking(server) as talk:
+                talk.asks(self, "repeated opens, another connection", *missing)
+            self.holds("repeated opens: the connection has ended", has(self, server, r"seat \d+: connection 2: ended: end"))
+            lines = [it for it in lines_of(self, server) if "refused" in it]
+            refused_lock = rf"seat \d+: /dev/st0: open refused: {re.escape(str(reel))}: {LOCKED}"
+            wanted = [*(rf"seat \d+: {it}" for it in (NO_ST9, NO_ST9.replace("9", "8"), NO_ST9, NO_ST9)), refused_lock, rf"seat \d+: {NO_ST9}"]
+            self.same("repeated opens: the lines", as_forms(lines, wanted), wanted)
+
+    def test_names_of_clients(self) -> None:
+        """A drive's name comes from the client: control characters and what is no text are question marks."""
+        with serving() as server:
+            with talking(server) as talk:
+                talk.asks(self, "names of clients", *[(b"O%s\n2\n" % sent, NO_SUCH_FILE) for sent, _ in NAMES])
+            self.holds("names of clients: the connection has ended", has(self, server, r"seat \d+: connection 1: ended: end"))
+            self.same("names of clients: the lines", refused_in(lines_of(self, server)), [f"{REFUSED}there is no drive {it}" for _, it in NAMES])
+
+    def test_nothing_of_opens_that_succeed(self) -> None:
+        """Nor of other requests that are refused."""
+        refused = (NOTHING, NOTHING_OPEN), (CLOSE, NOTHING_OPEN), (READ, NOTHING_OPEN)
+        open_ones = (opened(), DONE), (b"R0\n", INVALID), (b"I8\n1\n", INVALID), (OFFLINE, DONE_ONE), (NOTHING, NO_REEL)
+        with serving() as server:
+            server.reel("r1")
+            with talking(server) as talk:
+                talk.asks(self, "no refused open", *refused, *open_ones)
+            self.holds("no refused open: the connection has ended", has(self, server, r"seat \d+: connection 1: ended: end"))
+            self.same("no refused open: no line", refused_in(lines_of(self, server)), [])
+
+    def test_in_memory(self) -> None:
+        """A server in memory has these lines too. Its reel is in no folder."""
+        words = [built("rmtd"), "--listen", TCP, "--connections", "2"]
+        with tempfile.TemporaryFile() as log, listening(words, stderr=log) as (process, address):
+            for title in ("in memory", "in memory, another connection"):
+                talk = Talk(address)
+                talk.asks(self, title, (opened(9), NO_SUCH_FILE), (opened(9), NO_SUCH_FILE), (opened(mode=3), INVALID))
+                if title == "in memory":
+                    talk.asks(self, f"{title}, moved", (opened(), DONE), (OFFLINE, DONE_ONE))
+                talk.asks(self, f"{title}, empty", (opened(), NO_REEL), (opened(9), NO_SUCH_FILE))
+                talk.end()
+            self.same("in memory: it ends", process.wait(GUARD_SECONDS), 0)
+            lines = bare(self, "in memory", told(log).splitlines())
+        self.same("in memory: the lines", [it for it in lines if REFUSED in it], [NO_ST9, NO_ACCESS, EMPTY_STACK, NO_ST9] * 2, lines)
+
+    def test_stdio(self) -> None:
+        """With drives in folders; with a reel in memory there is no log."""
+        asked, replies = b"".join(it for it, _, _ in REFUSALS), b"".join(it for _, it, _ in REFUSALS)
+        with tempfile.TemporaryDirectory() as folder:
+            words = stdio_words(Path(folder))
+            Path(folder, "st0/r1").unlink()
+            got = ran(words, asked)
+            lines = bare(self, "stdio", got.told.decode().splitlines())
+            self.same("stdio: the replies and the lines", (got.status, got.output, lines), (0, replies, [it for _, _, it in REFUSALS]))
+            both = subprocess.run(words, input=asked, stdout=subprocess.PIPE, stderr=subprocess.STDOUT, check=False)
+            self.same("stdio, one pipe: the replies alone", (both.returncode, both.stdout), (0, replies))
+        got = ran([built("rmtd"), "--stdio"], opened(9))
+        self.same("stdio in memory: no line", got, Ended(NO_SUCH_FILE, b"", 0))
 
 
 class ManyConnections(Case):
@@ -527,7 +671,8 @@ WRONG = (
         OFFLINE + CLOSE + opened() + OFFLINE,
         (UNMOVED, UNSYNCED),
     ),
-    Wrong("the sync of a folder", "", f"{SYNCS}:when=2", OFFLINE, (r"r1 moved to the bin, folder sync failed: .+ \(os error 5\)",)),
+    Wrong("the sync of the bin", "", f"{SYNCS}:when=2", OFFLINE, (BIN_UNSYNCED,)),
+    Wrong("the sync of the stack", "", f"{SYNCS}:when=3", OFFLINE, (SYNC_FAILED,)),
     Wrong("a write", "", FULL, CLOSE, (r"r1 closed, synced, a read or write failed: .+ \(os error 28\)",)),
     Wrong("a write before a move", "", FULL, OFFLINE, (r"r1 moved to the bin, a read or write failed: .+ \(os error 28\)",)),
     Wrong("the open", "locked", "", CLOSE, (rf"open refused: .+/r1: {LOCKED}",)),
@@ -553,7 +698,7 @@ class Stdio(Case):
 
     def test_nothing_is_told_of_what_went_well(self) -> None:
         """Nor of what is no request."""
-        asked = opened() + write(b"x") + OFFLINE + CLOSE + opened() + b"?"
+        asked = opened() + write(b"x") + OFFLINE + CLOSE + b"?"
         for title, words in (("folders", stdio_words(self.folder)), ("memory", [built("rmtd"), "--stdio"])):
             got = ran(words, asked)
             self.same(f"stdio, {title}: nothing is told", (got.status, got.told), (3, b""), got)

@@ -42,7 +42,8 @@ from tests.lib.listings import (
     said,
     wire_end,
 )
-from tests.lib.places import built
+from tests.lib.places import built, is_unproved
+from tests.lib.refusals import OPEN, refused_with
 from tests.lib.shim import Shim, compiled
 from tests.lib.terminals import CLEAR, Terminal
 from tests.lib.wire import DEVICE, IO_ERROR
@@ -86,6 +87,8 @@ class LsCase(Case):
 
 # Rows written by hand.
 
+# The most marks that may follow one another.
+MOST_MARKS = 1_000_000
 USR_SAID = "/usr level 0 date 951782400 since 0 volume 1 first 0"
 TORN = image(b"torn away")
 
@@ -247,6 +250,27 @@ class Files(LsCase):
             os.chmod(rdump.folder / "closed", 0o700)
             got = rdump.ls("good", "nothing", "file")
             self.same("that something failed is said before what is not whole", (got.status, len(got.lines)), (FAILED, 2), got)
+
+    def test_marks_without_end(self) -> None:
+        """A sparse file of zeros is nothing but marks. After a million of them in a row the list goes on with the next reel."""
+        if is_unproved("rdump"):
+            self.skipTest("a program that is not proved takes long for millions of marks")
+        many = image(None) * MOST_MARKS
+        with self.rdump() as rdump:
+            rdump.put({"many": many[:-4] + image(b"x") + many, "more": VOLUME + many + image(None), "z": WHOLE, "sums": b""})
+            with (rdump.folder / "huge").open("wb") as file:
+                file.truncate(1 << 40)
+            lines = [
+                "huge: cannot be told: it has too many marks",
+                f"many: 1 records, 1999999 marks, {len(many) * 2 + 5} bytes: not a volume of rdump",
+                f"more: {USR_SAID}, 2 blocks of 1024 bytes: cannot be told: it has too many marks",
+                said(WHOLE).line("z"),
+            ]
+            got = rdump.ls("huge", "more", "many", "z")
+            self.same("too many marks", (sorted(got.lines), got.told, got.status), (lines, "", NOT_WHOLE), got)
+            got = rdump.ls("--sums", "sums", "huge", "z")
+            lines = [lines[0], f"{lines[3]}, no sum known"]
+            self.same("too many marks, with sums", (sorted(got.lines), got.told, got.status), (lines, "", NOT_WHOLE), got)
 
     def test_strange_names(self) -> None:
         """Names with bytes that are no text, or would begin a line of their own."""
@@ -526,7 +550,7 @@ class Drives(LsCase):
         with self.rdump() as rdump, at_reel(rdump.folder, None) as address:
             for device, number in ((DEVICE, 6), ("/dev/st9", 2)):
                 got = rdump.ls("--to", address, "--device", device)
-                self.same(f"{device} is refused", got, Listed([], f"rdump: {address}: open refused with E{number}\n", FAILED))
+                self.same(f"{device} is refused", got, Listed([], f"rdump: {address}: {refused_with(number, OPEN, device)}", FAILED))
         with self.rdump() as rdump, socket.socket() as unheard:
             unheard.bind(("127.0.0.1", 0))
             address = "127.0.0.1:%d" % unheard.getsockname()[1]
@@ -546,7 +570,7 @@ class Drives(LsCase):
                 if number == last:
                     self.same(f"{title}: what the close is answered changes nothing", got, true)
                 elif way == HANG_UP or number == 1:
-                    why = "the connection ended" if way == HANG_UP else "open refused with E5"
+                    why = "the connection ended" if way == HANG_UP else refused_with(5, OPEN)[:-1]
                     self.same(f"{title}: told", got, Listed([], f"rdump: {address}: {why}\n", FAILED))
                 else:
                     untold = len(got.lines) == 1 and "cannot be told: " in got.lines[0] and got.status == NOT_WHOLE and not got.told

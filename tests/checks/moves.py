@@ -10,6 +10,7 @@ from __future__ import annotations
 import os
 import re
 import signal
+import subprocess
 from itertools import chain, repeat
 from pathlib import Path
 from typing import Callable, NamedTuple
@@ -17,6 +18,8 @@ from typing import Callable, NamedTuple
 from tests.lib.drives import data_of, drive_words, folders, held
 from tests.lib.shimmed import Ran, SiteCase
 from tests.lib.stdio_servers import MOVED, Site, Start, Talk, away, seen, site, talking
+from tests.lib.traced import traced
+from tests.lib.waiting import GUARD_SECONDS
 from tests.lib.wire import CLOSE
 from tests.lib.wire import DONE as TAKEN
 from tests.lib.wire import DONE_ONE, IO_ERROR, NO_REEL, NOTHING, NOTHING_OPEN, OFFLINE, opened, write
@@ -26,6 +29,17 @@ from tests.models.rmtd import images
 BEFORE_THE_MOVE = "link:1:S,rename:2:S"
 # What the system says where it makes no hard links, or none of this file.
 NO_LINKS = {"EPERM": 1, "EOPNOTSUPP": 95, "EMLINK": 31, "ENOSYS": 38}
+
+# The rule of a file system without links.
+WITHOUT_LINKS = f"link:1+:E{NO_LINKS['EPERM']}"
+
+# The sync of the bin's folder in a move of a reel that was written to: the second one, after that of the reel.
+BIN_SYNC = "fsync:2:E5"
+# What is said of it, where the move is refused, and where it cannot be undone.
+BIN_UNSYNCED = r"move refused: .*/bin: sync: .+ \(os error 5\)"
+NAME_KEPT = r"r1 moved to the bin, its name in the stack was kept: the bin could not be synced: .+ \(os error 5\)"
+# What is said of a move after which the last sync of a folder failed.
+UNSYNCED = r"r1 moved to the bin, folder sync failed: .+ \(os error 5\)"
 
 # What is said of a name that the bin has.
 HAS_NAME = "r1 opened, to read only: the bin has the name"
@@ -59,6 +73,37 @@ IN_PLACE = (
     (Thing("a link to another file", lambda path: path.symlink_to("../other")), NO_REEL),
     (Thing("another reel", lambda path: path.write_bytes(images([b"another"]))), TAKEN),
 )
+
+
+class Removal(NamedTuple):
+    """A way in which a server removes or replaces a name: what the system refuses, by strace(1), and each call that does so, with the path at which
+    it looks just before."""
+
+    title: str
+    refused: tuple[str, ...]
+    calls: tuple[tuple[str, str], ...]
+
+
+REMOVALS = (
+    Removal("a move", (), (("unlink", "st0/r1"),)),
+    Removal("a move whose name in the stack is not removed", ("unlink,unlinkat:error=EIO:when=1",), (("unlink", "st0/r1"), ("unlink", "bin/r1"))),
+    Removal("a move whose bin is not synced", ("fsync:error=EIO:when=2",), (("unlink", "bin/r1"),)),
+    Removal("a move without links", ("link,linkat:error=EPERM",), (("rename", "bin/r1"),)),
+    Removal(
+        "a move without links whose bin is not synced",
+        ("link,linkat:error=EPERM", "fsync:error=EIO:when=2"),
+        (("rename", "bin/r1"), ("rename", "st0/r1")),
+    ),
+)
+# The calls of a server that take, look at or remove a name or sync a folder, and those that look.
+CALLS = "openat,open,flock,fsync,link,linkat,rename,renameat,renameat2,unlink,unlinkat,statx,newfstatat,lstat,stat"
+LOOKS = ("statx", "newfstatat", "lstat")
+
+
+def looked_at(call: str, given: str) -> str:
+    """The path of a reel at which a call looks, below the folder of the stack and the bin; nothing if the call is no look."""
+    path = re.search(r'"[^"]*/((?:st0|bin)/r1)"', given)
+    return path[1] if path and call in LOOKS else ""
 
 
 def in_form(lines: list[str], forms: tuple[str, ...]) -> list[str]:
@@ -151,6 +196,7 @@ class Moves(MoveCase):
         for title, rules, told in (
             ("a move that cannot be finished", "unlink:1:E5", r"open refused: .*/st0/r1: remove: .+ \(os error 5\)"),
             ("a move of which the bin cannot be looked at", "open:2+:E5", r"open refused: .+ \(os error 5\)"),
+            ("a move of which the bin cannot be synced", "fsync:1:E5", r"open refused: .*/bin: sync: .+ \(os error 5\)"),
         ):
             with folders(r1=images([b"data"]), r2=b"") as folder:
                 os.link(folder / "st0/r1", folder / "bin/r1")
@@ -184,15 +230,99 @@ class Moves(MoveCase):
                     talk.asks(f"{title}, and is asked for again", *MOVED)
                     self.is_moved(f"{title}, and is asked for again: the reel is in the bin", shop, data)
 
-    def test_sync_of_a_folder_fails_in_a_move(self) -> None:
-        """The move is done, and it is told."""
+    def test_sync_of_the_bin_fails_in_a_move(self) -> None:
+        """What the move did is undone, and the move is refused: the reel is open and on its stack alone. It goes when it is asked for again."""
         data = images([b"data"])
-        for call in ("fsync:2:E5", "fsync:3:E5"):
+        for how, rules in (("by a link", BIN_SYNC), ("by a rename", f"{WITHOUT_LINKS},{BIN_SYNC}")):
+            title = f"a move {how} whose bin is not synced"
+            sent, answers = opened() + write(b"data") + OFFLINE + b"R4\n", TAKEN + b"A4\n" + IO_ERROR + b"A4\ndata"
             with folders(r1=b"") as folder:
-                got = self.asked(folder, opened() + write(b"data") + OFFLINE + NOTHING, call)
-                self.ends(f"a move that meets {call}", got, TAKEN + b"A4\n" + DONE_ONE + NO_REEL)
-                self.same(f"a move that meets {call}: the reel", held(folder), ({}, {"r1": data}))
-                self.said(f"a move that meets {call}", got, r"r1 moved to the bin, folder sync failed: .+ \(os error 5\)")
+                got = self.asked(folder, sent, rules)
+                self.ends(f"{title}: it is refused", got, answers)
+                self.same(f"{title}: the reel is on its stack alone", held(folder), ({"r1": data}, {}))
+                self.said(title, got, BIN_UNSYNCED)
+            with folders(r1=b"") as folder:
+                got = self.asked(folder, sent + OFFLINE + NOTHING, rules)
+                self.ends(f"{title}, and is asked for again", got, answers + DONE_ONE + NO_REEL)
+                self.same(f"{title}, and is asked for again: the reel is in the bin", held(folder), ({}, {"r1": data}))
+                self.said(f"{title}, and is asked for again", got, BIN_UNSYNCED)
+
+    def test_sync_of_the_stack_fails_in_a_move(self) -> None:
+        """The move is done, and it is told."""
+        for how, rules in (("by a link", "fsync:3:E5"), ("by a rename", f"{WITHOUT_LINKS},fsync:3:E5")):
+            title = f"a move {how} whose stack is not synced"
+            with folders(r1=b"") as folder:
+                got = self.asked(folder, opened() + write(b"data") + OFFLINE + NOTHING, rules)
+                self.ends(title, got, TAKEN + b"A4\n" + DONE_ONE + NO_REEL)
+                self.same(f"{title}: the reel", held(folder), ({}, {"r1": images([b"data"])}))
+                self.said(title, got, UNSYNCED)
+
+    def test_file_system_syncs_no_folders(self) -> None:
+        """The system says so with EINVAL: the move is done, and it is told."""
+        for how, rules in (("by a link", "fsync:2-3:E22"), ("by a rename", f"{WITHOUT_LINKS},fsync:2-3:E22")):
+            title = f"a move {how} where no folder is synced"
+            with folders(r1=b"") as folder:
+                got = self.asked(folder, opened() + write(b"data") + OFFLINE + NOTHING, rules)
+                self.ends(title, got, TAKEN + b"A4\n" + DONE_ONE + NO_REEL)
+                self.same(f"{title}: the reel", held(folder), ({}, {"r1": images([b"data"])}))
+                self.said(title, got, r"r1 moved to the bin, folder sync failed: .+ \(os error 22\)")
+
+    def test_bin_is_not_synced_and_its_name_is_not_removed(self) -> None:
+        """The reel is in the bin, and its name in the stack is kept: the next open removes it."""
+        title, data = "a move whose bin is not synced, and whose link is not removed", images([b"data"])
+        with folders(r1=b"", r2=b"") as folder:
+            got = self.asked(folder, opened() + write(b"data") + OFFLINE + NOTHING, f"{BIN_SYNC},unlink:1:E5")
+            self.ends(f"{title}: it is done", got, TAKEN + b"A4\n" + DONE_ONE + NO_REEL)
+            self.same(f"{title}: the reel has both names", held(folder), ({"r1": data, "r2": b""}, {"r1": data}))
+            self.said(title, got, NAME_KEPT)
+            got = self.asked(folder, opened() + write(b"next"))
+            self.ends(f"{title}: then the next reel is opened", got, TAKEN + b"A4\n")
+            self.same(f"{title}: then both reels", held(folder), ({"r2": images([b"next"])}, {"r1": data}))
+
+    def test_rename_cannot_be_undone(self) -> None:
+        """The bin is not synced, and the reel is not renamed back, because the system refuses that or its name in the stack is taken: the move holds,
+        and nothing is replaced."""
+        data, unsynced = images([b"data"]), f"{WITHOUT_LINKS},{BIN_SYNC}"
+        title = "a rename that the system does not undo"
+        with folders(r1=b"") as folder:
+            # The look at the start asks for the first rename.
+            got = self.asked(folder, opened() + write(b"data") + OFFLINE + NOTHING, f"{unsynced},rename:3:E5")
+            self.ends(title, got, TAKEN + b"A4\n" + DONE_ONE + NO_REEL)
+            self.same(f"{title}: the reel is in the bin", held(folder), ({}, {"r1": data}))
+            self.said(title, got, UNSYNCED)
+        for thing in COMES_MEANWHILE:
+            title = f"a rename after which the stack has {thing.title} of the name"
+            with site(self.p.rmtd) as shop:
+                reel = shop.reel("r1")
+                # The lock of the bin is given back between the rename and the sync: the third call at a lock.
+                with talking(self, shop, how=self.meeting(f"{unsynced},flock:3:S")) as talk:
+                    talk.asks(title, (opened(), TAKEN), (write(b"data"), b"A4\n"))
+                    reply = stopped(talk, OFFLINE, lambda: thing.make(reel))
+                    came = seen(reel)
+                    self.same(f"{title}: the move stands", (reply, data_of(shop.bin / "r1")), (DONE_ONE, data))
+                self.same(f"{title}: it stands too", (came is not None, seen(reel)), (True, came))
+
+    def test_last_look_is_just_before(self) -> None:
+        """Between the last look at a name and its removal, or a rename that could replace it, the server makes no other call."""
+        for it in REMOVALS:
+            with folders(r1=b"") as folder:
+                self.looks_before(it, folder, opened() + write(b"data") + OFFLINE)
+        with folders(r1=images([b"data"])) as folder:
+            os.link(folder / "st0/r1", folder / "bin/r1")
+            self.looks_before(Removal("a move that was cut short", (), (("unlink", "st0/r1"),)), folder, opened())
+
+    def looks_before(self, removal: Removal, folder: Path, sent: bytes) -> None:
+        """Each call that removes or replaces a name comes right after a look at it, and these calls are those of the removal."""
+        if not (words := traced(self, CALLS)):
+            return
+        refused = [word for it in removal.refused for word in ("-e", f"inject={it}")]
+        server = (self.p.rmtd, "--stdio", *drive_words(folder))
+        subprocess.run((*words, *refused, *server), input=sent, capture_output=True, cwd=folder, timeout=GUARD_SECONDS, check=False)
+        made = re.findall(r"^(?:\d+ +)?(\w+)\((.*)\) += ", (folder / "calls").read_text(), re.MULTILINE)
+        # Those of the look at the start have other names.
+        changes = [at for at, (call, given) in enumerate(made) if call.startswith(("unlink", "rename")) and "/r1" in given]
+        found = [(made[at][0].removesuffix("2").removesuffix("at"), looked_at(*made[at - 1])) for at in changes]
+        self.same(f"{removal.title}: the call, and the last look", found, [*removal.calls], made[-20:])
 
     def test_no_name_can_be_removed_after_a_move(self) -> None:
         """The reel is in the bin, and nothing is opened until its name in the stack can be removed."""

@@ -20,7 +20,7 @@ from typing import Callable, Iterator, Mapping, NamedTuple
 
 from tests.lib.checkpoints import BOTH, ONE, RUN
 from tests.lib.connections import NOWHERE
-from tests.lib.dumping import DAY, ENTRY, LOST, ONE_VOLUME, PAYLOAD, RESTORE, DumpCase
+from tests.lib.dumping import DAY, ENTRY, LOST, NO_BLOCK, ONE_VOLUME, PAYLOAD, RESTORE, DumpCase
 from tests.lib.ended import ABNORMAL, DONE, FAILED, Ended
 from tests.lib.played_servers import Model, Reel
 from tests.lib.waiting import GUARD_SECONDS
@@ -320,15 +320,68 @@ class Modes(FileCase):
         self.same("dumpdates of mode 640: it stays so", self.mode_of("dd"), "0o640")
 
 
-class Kinds(FileCase):
-    """A file that is a pipe is not waited for, but for the payload."""
+# How many bytes a dumpdates file or a sums file may have, and what is told of a longer one.
+MOST_BYTES = 256 << 20
+TOO_LONG = "it has more than 256 MiB"
 
-    def test_dumpdates_and_checkpoints(self) -> None:
+
+class Kinds(FileCase):
+    """A file that has to be a plain one is refused if it is another, before anything is sent or made. A pipe is not waited for, but for the
+    payload."""
+
+    def test_files_that_are_no_plain_ones(self) -> None:
         os.mkfifo(self.p.folder / "pipe")
-        tells = ("rdump: pipe: it is no plain file\n",)
-        self.refused("dumpdates is a pipe", tells, {}, dumpdates="pipe")
-        self.refused("dumpdates is a pipe, to be entered", tells, {}, "--update", dumpdates="pipe")
-        self.refused("the checkpoint is a pipe", tells, {}, "--checkpoint", "pipe")
+        self.p.folder.joinpath("folder").mkdir()
+        for path in ("pipe", "folder", "/dev/zero", "/dev/full", "/dev/null"):
+            tells = (f"rdump: {path}: it is no plain file\n",)
+            rows: tuple[tuple[str, tuple[str, ...], dict[str, str | None]], ...] = (
+                ("dumpdates", (), {"dumpdates": path}),
+                ("dumpdates to be entered", ("--update",), {"dumpdates": path}),
+                ("the checkpoint", ("--checkpoint", path), {}),
+                ("the sums file", ("--sums", path), {}),
+            )
+            for title, more, changed in rows:
+                if (title, path) != ("dumpdates", "/dev/null"):
+                    self.refused(f"{title} is {path}", tells, {f"{path}.new": None}, *more, **changed)
+
+    def test_the_null_device(self) -> None:
+        """It is an empty dumpdates file, if nothing is entered there."""
+        self.told("dumpdates is the null device", self.dumped(dumpdates="/dev/null"), ONE_VOLUME, DONE, "")
+
+    def test_long_files(self) -> None:
+        """A dumpdates file or a sums file that is too long is not read."""
+        rows: tuple[tuple[str, tuple[str, ...], dict[str, str | None]], ...] = (
+            ("dd", (), {"dumpdates": "dd"}),
+            ("sums", ("--sums", "sums"), {}),
+        )
+        for name, more, changed in rows:
+            with self.p.folder.joinpath(name).open("wb") as file:
+                file.truncate(MOST_BYTES + 1)
+            self.refused(f"{name} is too long", (f"rdump: {name}: {TOO_LONG}\n",), {}, *more, **changed)
+
+    def test_files_of_other_commands(self) -> None:
+        """They are refused if they are too long, or a device that may have no end."""
+        self.p.file("reel", b"")
+        with self.p.folder.joinpath("long").open("wb") as file:
+            file.truncate(MOST_BYTES + 1)
+        for path, why in (("long", TOO_LONG), ("/dev/zero", "it is no plain file"), ("/dev/full", "it is no plain file")):
+            tells = f"rdump: {path}: {why}\n"
+            self.told(f"dates of {path}", self.p.run("dates", "--file", path), "", FAILED, tells)
+            self.told(f"ls --sums {path}", self.p.run("ls", "--sums", path, "reel"), "", FAILED, tells)
+            got = self.p.run("ls", "--dumpdates", path, "reel")
+            self.told(f"ls --dumpdates {path}", got, "reel: 0 bytes: empty\n", FAILED, tells)
+            got = self.p.run("read", "--to", NOWHERE, "--device", DEVICE, "--sums", path, "--out", "out")
+            self.told(f"read --sums {path}", got, "", FAILED, tells)
+
+    def test_files_of_other_commands_that_are_read(self) -> None:
+        """The null device is empty, and a pipe is read to its end."""
+        self.told("dates of the null device", self.p.run("dates", "--file", "/dev/null"), "", DONE, "")
+        os.mkfifo(self.p.folder / "pipe")
+        writer = threading.Thread(target=self.p.file, args=("pipe", ENTRY.encode()))
+        writer.start()
+        got = self.p.run("dates", "--file", "pipe")
+        writer.join()
+        self.told("dates of a pipe", got, ENTRY, DONE, "")
 
     def test_new_files(self) -> None:
         os.mkfifo(self.p.folder / "usr.new")
@@ -391,7 +444,7 @@ class Payloads(FileCase):
         self.p.file("payload", b"")
         got, _ = self.acted_on({6: lambda: self.p.file("payload", b"more")})
         output = "volume 1: 0 blocks from 0\ndump complete: 1 volumes, 0 blocks\n"
-        tells = "rdump: payload: it changed while it was dumped: it had 0 bytes, and has 4\n"
+        tells = f"{NO_BLOCK}rdump: payload: it changed while it was dumped: it had 0 bytes, and has 4\n"
         self.told("an empty payload that changed", got, output, DONE, tells)
 
     def test_younger_than_the_checkpoint(self) -> None:
@@ -465,7 +518,8 @@ class Restored(FileCase):
             self.p.file("payload", os.urandom(size))
             with Model(Reel("r1", 1 << 16)) as model:
                 got = self.raw(model.address, block=str(block))
-            self.same(f"{size} bytes: what a restore needs", got.told, needs(model.address, size, -(-size // block)))
+            empty = "" if size else NO_BLOCK
+            self.same(f"{size} bytes: what a restore needs", got.told, empty + needs(model.address, size, -(-size // block)))
 
     def test_a_shell_restores_it(self) -> None:
         """From a device whose name has characters that a shell takes for others."""

@@ -103,8 +103,11 @@ class ScriptCase(Case):
 
 
 # What no wait mends: the line on standard output, that on standard error, and whether it is such a one.
-LOOK = "rdump: 127.0.0.1:4711: the look failed: open: Refused {}: text (os error {})"
-PROTECTED = "rdump: 127.0.0.1:4711: protected: the first reel of /dev/st0 {}; lay another reel first, then answer yes"
+LOOK = "rdump: 127.0.0.1:4711: the look failed: open: Refused {}: the words for E{}"
+PROTECTED = (
+    "rdump: 127.0.0.1:4711: protected: the first reel of /dev/st0 {}; "
+    "take it away (rdump mt --to 127.0.0.1:4711 --device /dev/st0 offline 1) or lay another reel first, then answer yes"
+)
 REASONS = (
     ("volume 1 failed: Refused 2", "", True),
     ("volume 12 failed: Refused 22", "", True),
@@ -374,7 +377,7 @@ class NightByHand(ScriptCase):
         """It says which variables are missing, before it packs anything."""
         tree, kept = self.folder / "tree", self.folder / "kept"
         tree.mkdir()
-        kept.mkdir()
+        kept.mkdir(0o700)
         wanted = Ended("", "night: the variables TO (the server's address) and DEVICE (its drive) must be set\n", 1)
         for name, variables in (
             ("neither", {"TO": "", "DEVICE": ""}),
@@ -406,30 +409,32 @@ class NewReels(ScriptCase):
 
     def test_reels(self) -> None:
         self.same("three reels", self.make("stack", "bin", "3"), Ended("", "", DONE), self.names())
-        self.same("their names", self.names(), ["2026-11-27-1", "2026-11-27-2", "2026-11-27-3"])
+        self.same("their names", self.names(), ["2026-11-27-001", "2026-11-27-002", "2026-11-27-003"])
         made = [(it.stat().st_size, it.stat().st_mode & 0o777) for it in self.folder.joinpath("stack").iterdir()]
         self.same("they are empty, and this user's alone", made, [(0, 0o600)] * 3)
 
     def test_names_that_are_taken(self) -> None:
         self.make("stack", "bin", "3")
-        self.folder.joinpath("stack/2026-11-27-1").write_bytes(b"a volume")
-        self.folder.joinpath("stack/2026-11-27-2").rename(self.folder / "bin/2026-11-27-2")
-        self.folder.joinpath("stack/2026-11-27-3").rename(self.folder / "shelf/2026-11-20/2026-11-27-3")
-        self.folder.joinpath("other/2026-11-27-4").touch()
-        link = self.folder / "stack/2026-11-27-5"
+        self.folder.joinpath("stack/2026-11-27-001").write_bytes(b"a volume")
+        self.folder.joinpath("stack/2026-11-27-002").rename(self.folder / "bin/2026-11-27-002")
+        self.folder.joinpath("stack/2026-11-27-003").rename(self.folder / "shelf/2026-11-20/2026-11-27-003")
+        self.folder.joinpath("other/2026-11-27-004").touch()
+        link = self.folder / "stack/2026-11-27-005"
         link.symlink_to("nowhere")
-        os.mkfifo(self.folder / "stack/2026-11-27-6")
-        self.folder.joinpath("stack/2026-11-27-7").mkdir()
+        os.mkfifo(self.folder / "stack/2026-11-27-006")
+        self.folder.joinpath("stack/2026-11-27-007").mkdir()
         self.same("two reels more", self.make("stack", "bin", "2", "shelf", "other"), Ended("", "", DONE), self.names())
-        wanted = ["2026-11-27-1", *(f"2026-11-27-{it}" for it in (5, 6, 7, 8, 9))]
+        wanted = ["2026-11-27-001", *(f"2026-11-27-{it:03}" for it in (5, 6, 7, 8, 9))]
         self.same("no name that is taken", self.names(), wanted)
-        self.same("what was there is as it was", self.folder.joinpath("stack/2026-11-27-1").read_bytes(), b"a volume")
+        self.same("what was there is as it was", self.folder.joinpath("stack/2026-11-27-001").read_bytes(), b"a volume")
         nowhere = self.folder / "stack/nowhere"
         self.same("a link stays one, and what it names is not made", (link.is_symlink(), nowhere.exists()), (True, False))
         self.same("no reel", (self.make("stack", "bin", "0"), self.names()), (Ended("", "", DONE), wanted))
-        self.make("stack", "bin", "10")
-        last = {"2026-11-27-10", "2026-11-27-01"}
-        self.same("ten reels are in the order of their numbers", last & set(self.names()), last, self.names())
+        self.make("stack", "bin", "10", "shelf", "other")
+        self.same("a third call: they are in the order of their numbers", self.names()[-11:], [f"2026-11-27-{it:03}" for it in range(9, 20)])
+        self.same("a reel of the numbers that are left", self.make("stack", "bin", "980", "shelf", "other"), Ended("", "", DONE))
+        got = self.make("stack", "bin", "1", "shelf", "other")
+        self.same("no number is left", (got.status, "up to 999" in got.told, self.names()[-1]), (1, True, "2026-11-27-999"), got)
 
     def test_bad_words(self) -> None:
         self.make("stack", "bin", "3")
@@ -453,12 +458,14 @@ class NewReels(ScriptCase):
         self.same("the stack of another user", (got.status, "another user's" in got.told), (1, True), got)
 
 
+# What a mail ends with if a dump is not finished.
+AGAIN = "night: to complete it, run night with level {0} and the same other arguments: it then makes a dump of level {0} too\n"
 # Of so many bytes a payload has more than one block.
 LONG = 300000
 
 
-class NightScript(ScriptCase):
-    """The script that packs a tree and dumps it: what it leaves in its folder."""
+class NightCase(ScriptCase):
+    """Tests of the script that packs a tree and dumps it, with a tree, a folder and a clock of their own."""
 
     def setUp(self) -> None:
         super().setUp()
@@ -470,6 +477,7 @@ class NightScript(ScriptCase):
         (self.programs / "unattended").symlink_to(UNATTENDED)
         self.tree.mkdir()
         (self.tree / "file").write_bytes(random.Random(5).randbytes(LONG))
+        self.place.mkdir(0o700)
 
     def dumps(self, to: str, level: int = 0, before: tuple[str, ...] = ()) -> Ended[str]:
         """What comes of the script at a level. It answers no question."""
@@ -478,18 +486,23 @@ class NightScript(ScriptCase):
 
     def left(self) -> list[str]:
         """What a run left that is large, or that the next one goes on from."""
-        return sorted(it.name for it in self.place.iterdir() if it.name.startswith(("payload", "checkpoint")))
+        return sorted(it.name for it in self.place.iterdir() if it.name.startswith(("payload", "checkpoint", "snapshot.new")))
+
+
+class NightScript(NightCase):
+    """What the script leaves in its folder."""
 
     def test_full_disk(self) -> None:
         """tar finds no room for the payload: what it packed is removed."""
+        self.place.rmdir()
         with small_disk(self.place) as is_small:
+            self.place.chmod(0o700)
             got = self.dumps(NOWHERE, before=() if is_small else IN_LITTLE_ROOM)
             self.same("no room for the payload", (got.status, "nothing is dumped" in got.told, self.left()), (1, True, []), got)
 
     def test_what_an_earlier_run_left(self) -> None:
         """A run that was killed left files that no dump needs. They go before tar needs the room."""
-        self.place.mkdir()
-        for it in ("payload", "payload.tar"):
+        for it in ("payload", "payload.new", "snapshot.new"):
             (self.place / it).write_bytes(bytes(1000))
         (self.programs / "tar").write_text(f'#!/bin/sh\nls {self.place}\nexit 2\n')
         (self.programs / "tar").chmod(0o755)
@@ -501,15 +514,14 @@ class NightScript(ScriptCase):
         before = traced(self, "fsync,rename,renameat,renameat2,openat")
         if not before:
             return
-        self.place.mkdir()
         got = self.dumps(NOWHERE, before=before)
         self.same("the dump has a checkpoint", (got.status, self.left()), (ABNORMAL, ["checkpoint", "payload"]), got)
         lines = (self.folder / "calls").read_text(errors="replace").splitlines()
         lines = lines[: next(number for number, it in enumerate(lines) if "checkpoint.new" in it)]
         place = re.escape(str(self.place))
         for title, pattern in (
-            ("the payload is synced", rf"fsync\(\d+<{place}/payload(\.tar)?>\) += 0"),
-            ("it gets its name", r'rename\w*\(.*"payload\.tar", .*"payload".*\) += 0'),
+            ("the payload is synced", rf"fsync\(\d+<{place}/payload(\.new)?>\) += 0"),
+            ("it gets its name", r'rename\w*\(.*"payload\.new", .*"payload".*\) += 0'),
             ("the folder is synced", rf"fsync\(\d+<{place}>\) += 0"),
         ):
             at = next((number for number, it in enumerate(lines) if re.search(pattern, it)), None)
@@ -518,7 +530,6 @@ class NightScript(ScriptCase):
 
     def test_number_before_the_dump(self) -> None:
         """It is written before the dump begins: the dump may be entered although this script was killed. That of an earlier dump goes afterwards."""
-        self.place.mkdir()
         earlier, other = (f"/usr level {level} date 1: 7 blocks\n" for level in (0, 1))
         (self.place / "blocks").write_text(earlier + other)
         number = f"/usr level 0 date {timegm(time.strptime('2026-11-29 02:00', '%Y-%m-%d %H:%M'))}: 2 blocks\n"
@@ -531,9 +542,50 @@ class NightScript(ScriptCase):
             got = self.dumps(text_of(server.address))
             self.same("it goes on: the number", (self.place / "blocks").read_text(), other + number, got)
 
+    def test_mail(self) -> None:
+        """The mail names each dump before what is printed of it. If a dump fails, its last lines say how it ended, and what to run."""
+        number, again = "night: /usr level 0 date {}: 2 blocks\n".format, AGAIN.format
+        sunday, monday = (timegm((2026, 11, it, 2, 0, 0)) for it in (29, 30))
+        ended = "night: /usr level {} date {} ended with status {}\n"
+        got = self.dumps(NOWHERE)
+        self.same("it is not finished", (got.status, got.told.startswith(number(sunday))), (ABNORMAL, True), got)
+        self.holds("it is not finished: the end", got.told.endswith(ended.format(0, sunday, 3) + again(1)), got)
+        set_clock(self.folder / "now", "2026-11-30 02:00")
+        got = self.dumps(NOWHERE, 1)
+        self.holds("it fails again", got.told.endswith(ended.format(0, sunday, 3) + again(1)), got)
+        with serving() as server:
+            server.reel("r1")
+            got = self.dumps(text_of(server.address), 1)
+            first, found, second = got.told.partition(number(monday).replace("level 0", "level 1").replace("2 blocks", "1 blocks"))
+            self.same("two dumps", (first.startswith(number(sunday)), first.count("to restore: "), bool(found)), (True, 1, True), got)
+            self.holds("the second fails", second.endswith(ended.format(1, monday, 3) + again(1)), got)
+
+    def test_mail_of_a_killed_dump(self) -> None:
+        """Its last line has the status, and the name of the signal."""
+        (self.programs / "rdump").unlink()
+        (self.programs / "rdump").symlink_to(self.folder / "rdump")
+        for name, status in (("KILL", 137), ("TERM", 143)):
+            set_clock(self.folder / "now", f"2026-11-29 02:{status - 100}")
+            self.stand_in(f'#!/bin/sh\ntest "$1" != dump || kill -{name} $$\nexec {built("rdump")} "$@"\n')
+            got = self.dumps(NOWHERE)
+            self.same(name, (got.status, got.told.endswith(f" ended with status {status} (signal {name})\n")), (status, True), got)
+
+    def test_unfinished_dump_of_another_folder(self) -> None:
+        """A dump that fails names the unfinished dumps of the folders beside this one, and nothing else that has this name."""
+        line = "rdump 1\ndevice /dev/st{}\nfs /home\nlevel 2\ndate 951782400\nsince 0\nblock 1024\nblocks 8\n".format
+        for name, text in (("other", line(0)), ("another drive", line(1)), ("of another program", "level 2\n")):
+            (self.folder / name).mkdir()
+            (self.folder / name / "checkpoint").write_text(text)
+        (self.folder / "pipe").mkdir()
+        os.mkfifo(self.folder / "pipe/checkpoint")
+        got = self.dumps(NOWHERE)
+        told = re.findall(r"(?m)^night: .*checkpoint.*$", got.told)
+        other = f"{self.folder}/other/checkpoint is of an unfinished dump too: /home level 2 date 951782400"
+        wanted = [f"night: {other}. If its reel is in the way, complete it first"]
+        self.same("it is named", (got.status, told), (ABNORMAL, wanted), got)
+
     def test_another_payload(self) -> None:
         """The payload of an unfinished dump has another length: the message names it, and what to do, and that does it."""
-        self.place.mkdir()
         self.same("the dump is not finished", (self.dumps(NOWHERE).status, self.left()), (ABNORMAL, ["checkpoint", "payload"]))
         payload, checkpoint = self.place / "payload", self.place / "checkpoint"
         rows: tuple[tuple[str, str, Callable[[], object]], ...] = (
@@ -549,12 +601,12 @@ class NightScript(ScriptCase):
                 self.same(f"{title}: nothing is dumped", ([*server.bin.iterdir()], checkpoint.exists()), ([], True))
             checkpoint.unlink()
             server.reel("r1")
+            set_clock(self.folder / "now", "2026-11-30 02:00")
             got = self.dumps(text_of(server.address))
             self.same("the checkpoint is removed", (got.status, "dump complete" in got.output, self.left()), (DONE, True, []), got)
 
     def test_numbers_of_blocks(self) -> None:
         """After each dump the folder has the number of blocks of each entry, and no others."""
-        self.place.mkdir()
         with serving() as server:
             for day, level in ((29, 0), (30, 1), (30, 2)):
                 server.reel(f"{day} {level}")
@@ -809,7 +861,7 @@ class Nights(Case):
     def sunday(self, cron: Crontabs) -> None:
         """Sunday, 29 November 2026."""
         reels = cron.run("2026-11-29 01:00")
-        self.same("new reels: no mail", (reels.text, stack()), ("", [f"2026-11-29-{it}" for it in (1, 2, 3)]))
+        self.same("new reels: no mail", (reels.text, stack()), ("", [f"2026-11-29-{it:03}" for it in (1, 2, 3)]))
         mail = cron.run("2026-11-29 02:00")
         complete = re.search(r"^dump complete: 1 volumes, \d+ blocks$", mail.text, re.M) is not None
         self.same("night 1: its mail", (mail.status, complete), (DONE, True), mail)
@@ -819,15 +871,15 @@ class Nights(Case):
         self.same("night 1: the server has the entries", (TAKEN / "usr").read_text(), dumpdates())
         self.same("night 1: the server has the numbers of blocks", (TAKEN / "usr.blocks").read_text(), (CLIENT / "blocks").read_text())
         self.same("morning 1: no mail", cron.run("2026-11-29 09:00"), Mail("", DONE))
-        self.same("morning 1: the shelf", (shelf(), list(BIN.iterdir())), ({"2026-11-29": ["2026-11-29-1"]}, []))
-        self.same("morning 1: a reel may only be read", (SHELF / "2026-11-29/2026-11-29-1").stat().st_mode & 0o777, 0o400)
+        self.same("morning 1: the shelf", (shelf(), list(BIN.iterdir())), ({"2026-11-29": ["2026-11-29-001"]}, []))
+        self.same("morning 1: a reel may only be read", (SHELF / "2026-11-29/2026-11-29-001").stat().st_mode & 0o777, 0o400)
 
     def monday(self, cron: Crontabs, tree: Path) -> None:
         """The server is down at the start, and comes back."""
         (tree / "monday").write_bytes(b"monday" * 1000)
         os.utime(tree / "monday", (set_clock(NOW, "2026-11-29 12:00"),) * 2)
         reels = cron.run("2026-11-30 01:00")
-        self.same("night 2: reels", (reels.text, "2026-11-30-3" in stack()), ("", True), stack())
+        self.same("night 2: reels", (reels.text, "2026-11-30-003" in stack()), ("", True), stack())
         stop("rmtd")
         mail = cron.run("2026-11-30 02:00", comes_back, PAUSE="1", TIMES="100000")
         self.holds("night 2: it was down", mail.text.count("retry?\n") >= 1, mail)
@@ -835,7 +887,7 @@ class Nights(Case):
         entry = "/usr                             1 Mon Nov 30 02:00:00 2026\n"
         self.holds("night 2: a second level", entry in dumpdates(), dumpdates())
         mail = cron.run("2026-11-30 09:00")
-        self.same("morning 2", (mail, shelf().get("2026-11-30")), (Mail("", DONE), ["2026-11-29-2"]), shelf())
+        self.same("morning 2", (mail, shelf().get("2026-11-30")), (Mail("", DONE), ["2026-11-29-002"]), shelf())
 
     def tuesday(self, cron: Crontabs, tree: Path) -> None:
         """Reels of a million bytes, and one too few of them."""
@@ -847,8 +899,8 @@ class Nights(Case):
         stop("rmtd")
         listener(1000000)
         mail = cron.run("2026-12-01 02:00", PAUSE="0", TIMES="2")
-        self.same("night 3: a reel is wanted", (mail.status, mail.text.count("Refused 6: No such")), (ABNORMAL, 3), mail)
-        ends = mail.text.endswith("run the same command\n")
+        self.same("night 3: a reel is wanted", (mail.status, mail.text.count("Refused 6: no reel is on the stack")), (ABNORMAL, 3), mail)
+        ends = mail.text.endswith(f" ended with status 3\n{AGAIN.format(1)}")
         self.same("night 3: it gave up", (ends, "dump complete" in mail.text), (True, False), mail)
         kept = (CLIENT / "checkpoint").read_text()
         found = (kept.count("\ncounted "), "\nlevel 1\n" in kept, (CLIENT / "payload").exists())

@@ -1,7 +1,7 @@
 """Packs the programs as Debian packages, reads what is in the packages, and installs them on machines of their own.
 
 A machine is a copy of this one, an overlay over its files, of which this check changes nothing. There the packages are installed beside
-another `rdump`, used, upgraded under a server that runs, removed and purged, and installed where users, groups, folders or settings are
+Debian's `dump`, used, upgraded under a server that runs, removed and purged, and installed where users, groups, folders or settings are
 not as the packages expect them. That takes root, unshare(1), overlays and Debian's dpkg with systemd; where they are not to be had, these
 parts are named as skipped.
 """
@@ -18,7 +18,7 @@ import tempfile
 import unittest
 from concurrent.futures import ThreadPoolExecutor
 from pathlib import Path
-from typing import Callable
+from typing import Callable, NamedTuple
 
 from tests.lib.case import Case
 from tests.lib.given import given
@@ -45,6 +45,13 @@ OF_AN_ADMINISTRATOR = (
     *(f"systemd/system/{it}" for it in ("rmtd.service", "tapes.socket", "tapes@.service")),
     *(f"{it}.d/rmtd.conf" for it in ("sysusers", "tmpfiles")),
 )
+
+# Notes in a copy of the repository that the programs there were proved.
+NOTE = """
+from tests.tools import build
+crates = build.below(build.listed(), ["rmtd", "rdump", "rsim"])
+assert not build.note_built(crates, ["rmtd", "rdump", "rsim"], build.sums_of(crates), 0.0)
+"""
 
 # The files of the packages, but for the pages in docs/.
 FILES = {
@@ -87,17 +94,17 @@ FIELDS = {
     "rmtd": {
         "Depends": r"libc6 \(>= [\d.]+\)(, libgcc-s1( \(>= [\d.]+\))?)?"
         + "".join(rf", systemd \| systemd-standalone-{it} \| systemd-{it}" for it in ("sysusers", "tmpfiles")),
-        "Conflicts": "",
     },
-    "rdump": {"Depends": r"libc6 \(>= [\d.]+\)(, libgcc-s1( \(>= [\d.]+\))?)?", "Conflicts": "dump"},
+    "rdump": {"Depends": r"libc6 \(>= [\d.]+\)(, libgcc-s1( \(>= [\d.]+\))?)?"},
 }
 FIELDS_OF_BOTH = {
-    "Version": r"\d+\.\d+\.\d+~git\d{14}\.[0-9a-f]{8}(\+changed)?",
+    "Version": r"\d+\.\d+\.\d+~git\d{14}\.[0-9a-f]{8}(\+changed)?(\+unproved)?",
     "Maintainer": "those who built this package <nobody@example.org>",
     "Section": "non-free/admin",
     "Pre-Depends": "",
+    "Conflicts": "",
 }
-CONTROL = {"rmtd": {"conffiles", "control", "md5sums", "postinst", "postrm", "prerm"}, "rdump": {"control", "md5sums"}}
+CONTROL = {"rmtd": {"conffiles", "control", "md5sums", "postinst", "postrm", "prerm"}, "rdump": {"control", "md5sums", "postrm", "preinst"}}
 TAPES_SOCKET = {"ListenStream": "/run/rmtd.socket", "SocketUser": "rmtd", "SocketGroup": "tape", "SocketMode": "0660", "KeepAlive": "yes"}
 # Paths that only documents name: of what an administrator installs by hand, and of this repository.
 FOREIGN = (b"/usr/local/sbin/r", b"/usr/local/sbin/tapes", b"/srv/tape", b"/crates/")
@@ -152,6 +159,17 @@ def pack(
 def packages_in(folder: Path) -> dict[str, Path]:
     """The packages of a folder by their names."""
     return {it.name.partition("_")[0]: it for it in folder.glob("*.deb")}
+
+
+def copied(folder: Path) -> Path:
+    """A copy of the repository with its files as they are, without what was built."""
+    copy = folder / "copy"
+    subprocess.run(("git", "clone", "--quiet", str(TOP), str(copy)), check=True)
+    for it in read("git", "-C", str(TOP), "ls-files", "-z", "--cached", "--others", "--exclude-standard").split("\0"):
+        if TOP.joinpath(it).is_file():
+            copy.joinpath(it).parent.mkdir(parents=True, exist_ok=True)
+            shutil.copy(TOP / it, copy / it)
+    return copy
 
 
 def by_another_user() -> tuple[str, ...]:
@@ -249,6 +267,43 @@ class Packed(PackageCase):
         for name, it in self.packages.items():
             here = (it.name, it.read_bytes()) == (more[name].name, more[name].read_bytes())
             self.holds(f"{name}: two builds have one name and the same bytes", here, it.name, more[name].name)
+
+    def test_unproved(self) -> None:
+        """A version says so if no note says that these programs were proved, with these sources."""
+        folder = Path(self.enterContext(tempfile.TemporaryDirectory(dir=self.folder)))
+        copy = copied(folder)
+        programs = [copy / "crates" / it / "out" / it for it in PROGRAMS]
+        for it in programs:
+            it.parent.mkdir()
+            shutil.copy(built(it.name), it)
+        self.packed_as("no notes", copy, programs, PROGRAMS)
+        if not shutil.which("rt"):
+            self.skip_part("notes", "rt cannot be used on this machine")
+            return
+        subprocess.run((sys.executable, "-c", NOTE), cwd=copy, check=True)
+        self.packed_as("noted, and elsewhere", copy, [Path(built(it)) for it in PROGRAMS], ())
+        folder.joinpath("rt").write_text("#!/bin/sh\nexit 1\n")
+        folder.joinpath("rt").chmod(0o755)
+        self.packed_as("no kit", copy, programs, PROGRAMS, {"PATH": f"{folder}:{os.environ['PATH']}"})
+        programs[1].write_bytes(programs[1].read_bytes() + b"more")
+        self.packed_as("other bytes", copy, programs, ("rdump",))
+        with copy.joinpath("crates/rmtd/src/main.rt").open("a") as source:
+            source.write("// More.\n")
+        self.packed_as("other bytes and sources", copy, programs, ("rmtd", "rdump"))
+
+    def packed_as(self, name: str, copy: Path, programs: list[Path], unproved: tuple[str, ...], variables: dict[str, str] | None = None) -> None:
+        """Packs programs in a copy of the repository. If some are unproved, the version and one line say so."""
+        folder = copy / "out/deb"
+        shutil.rmtree(folder, ignore_errors=True)
+        command = (sys.executable, str(copy / "packaging/deb.py"), *map(str, programs), str(folder))
+        got = ran(*command, env=os.environ | (variables or {}))
+        packages = packages_in(folder)
+        self.same(f"{name}: deb.py makes two packages", (got.returncode, set(packages)), (0, set(FILES)), got.stdout)
+        versions = {read("dpkg-deb", "--field", str(it), "Version").strip() for it in packages.values()}
+        self.same(f"{name}: the version", {it.endswith("+unproved") for it in versions}, {bool(unproved)}, versions)
+        lines = [it for it in got.stdout.decode().splitlines() if not it.endswith(".deb")]
+        wanted = [f"deb.py: the version has +unproved: no note says that these were proved as they are: {', '.join(unproved)}"] if unproved else []
+        self.same(f"{name}: what deb.py says", lines, wanted)
 
     def test_contents(self) -> None:
         """The files of a package, their owners and modes."""
@@ -350,27 +405,62 @@ class Packed(PackageCase):
 # Machines of their own. All below runs where mounts are private.
 
 
-def later(package: Path, folder: Path) -> Path:
-    """The same package with a later version."""
-    root, made = folder / "later", folder / "later.deb"
-    subprocess.run(("dpkg-deb", "--raw-extract", str(package), str(root)), check=True)
-    control = root / "DEBIAN/control"
-    control.write_text(re.sub(r"(?m)^(Version: .*)$", r"\1.1", control.read_text()))
+def packed(root: Path) -> Path:
+    """The package of the files in a folder."""
+    made = root.with_suffix(".deb")
     quick = ("dpkg-deb", "--root-owner-group", "-Zgzip", "-z1", "--build", str(root), str(made))
     subprocess.run(quick, check=True, stdout=subprocess.DEVNULL)
     return made
 
 
-def another_rdump(folder: Path) -> Path:
-    """A package named dump, which has another rdump where Debian's has it."""
-    root, made = folder / "another", folder / "another.deb"
+def changed(package: Path, root: Path, pattern: str, value: str) -> Path:
+    """The files of a package in a folder, with another text in what dpkg reads of it."""
+    subprocess.run(("dpkg-deb", "--raw-extract", str(package), str(root)), check=True)
+    control = root / "DEBIAN/control"
+    control.write_text(re.sub(pattern, value, control.read_text()))
+    return root
+
+
+def later(package: Path, root: Path) -> Path:
+    """The same package with a later version."""
+    return packed(changed(package, root, r"(?m)^(Version: .*)$", r"\1.1"))
+
+
+def broken(package: Path, root: Path) -> Path:
+    """The same package with a later version, and with a file of the package another, so that dpkg stops when it has unpacked the rest."""
+    return packed(with_last_file(changed(package, root, r"(?m)^(Version: .*)$", r"\1.2")))
+
+
+def with_last_file(root: Path) -> Path:
+    """Adds a file that dpkg unpacks after all others."""
+    root.joinpath("usr/share/zz").mkdir(parents=True)
+    root.joinpath("usr/share/zz/file").write_text("file\n")
+    return root
+
+
+def described(name: str, version: str, root: Path) -> Path:
+    """Adds what dpkg reads of a package."""
     root.joinpath("DEBIAN").mkdir(parents=True)
-    root.joinpath("usr/sbin").mkdir(parents=True)
-    root.joinpath("usr/sbin/rdump").write_text("another rdump\n")
-    fields = "Package: dump\nVersion: 1\nArchitecture: all\nMaintainer: nobody <nobody@example.org>\nDescription: another rdump\n"
+    fields = f"Package: {name}\nVersion: {version}\nArchitecture: all\nMaintainer: nobody <nobody@example.org>\nDescription: of a test\n"
     root.joinpath("DEBIAN/control").write_text(fields)
-    subprocess.run(("dpkg-deb", "--root-owner-group", "--build", str(root), str(made)), check=True, stdout=subprocess.DEVNULL)
-    return made
+    return root
+
+
+def earlier(package: Path, root: Path) -> Path:
+    """Our rdump as it was packed first: it has an earlier version, no scripts, and the field that keeps dump away."""
+    changed(package, root, r"(?m)^Version: .*$", "Version: 0.0.9\nConflicts: dump")
+    for it in ("preinst", "postrm"):
+        root.joinpath("DEBIAN", it).unlink(missing_ok=True)
+    return packed(root)
+
+
+def dump_of(folder: str, version: str, root: Path) -> Path:
+    """A package that has a rdump as Debian's dump has it: a link beside dump in a folder, and a link that is its manual page."""
+    for at, name in ((folder, "dump"), ("usr/share/man/man8", "dump.8.gz")):
+        root.joinpath(at).mkdir(parents=True)
+        root.joinpath(at, name).write_text("Debian's\n")
+        root.joinpath(at, f"r{name}").symlink_to(name)
+    return packed(described("dump", version, root))
 
 
 def missing_for_machines() -> str:
@@ -530,12 +620,40 @@ def answer(connection: socket.socket, request: bytes, length: int) -> bytes:
     return got
 
 
+class Found(NamedTuple):
+    """Whose each of these files is: "ours", "dump's", or what is in it. An empty text says that there is none."""
+
+    rdump: str = ""
+    page: str = ""
+    # Where those of others are kept: the program of /sbin, that of /usr/sbin, and the manual page.
+    of_sbin: str = ""
+    of_usr_sbin: str = ""
+    of_page: str = ""
+
+
+PLACES = Found(
+    "/usr/sbin/rdump",
+    "/usr/share/man/man8/rdump.8.gz",
+    "/usr/sbin/rdump.dump",
+    "/usr/sbin/rdump.dump.usr",
+    "/usr/share/man/man8/rdump.dump.8.gz",
+)
+OURS = Found("ours", "ours")
+# With a dump that has its rdump in /sbin, and with one that has it in /usr/sbin.
+BESIDE = {"sbin": OURS._replace(of_sbin="dump's", of_page="dump's"), "usr_sbin": OURS._replace(of_usr_sbin="dump's", of_page="dump's")}
+DUMP_ALONE = Found("dump's", "dump's")
+
+# Prints what dpkg finds wrong with packages.
+AUDIT = ("sh", "-c", 'dpkg --audit "$@"; dpkg --verify "$@"', "audit")
+# The packages that dpkg knows where there are few: the one that has /sbin, and those that ours need.
+KNOWN = tuple(f"Package: {it}" for it in ("base-files", "libc6", "libgcc-s1", "systemd"))
+
 FOLDERS = ("/var/lib/rmtd", "/var/lib/rmtd/st0", "/var/lib/rmtd/st1", "/var/lib/rmtd/bin")
 MADE = ["root root 755 /var/lib/rmtd", *(f"rmtd rmtd 700 {it}" for it in FOLDERS[1:]), "rmtd rmtd 600 /var/lib/rmtd/log"]
 
 
-class Installed(PackageCase):
-    """The packages on machines of their own, each in a situation of its own."""
+class MachineCase(PackageCase):
+    """Tests on machines of their own."""
 
     on: Machine
 
@@ -545,6 +663,25 @@ class Installed(PackageCase):
         if lacking:
             raise unittest.SkipTest(f"{lacking} cannot be used on this machine")
         super().setUpClass()
+
+    def more_packages(self) -> dict[str, Path]:
+        """Packages that are made for these tests."""
+        return {"later": later(self.packages["rmtd"], MACHINES / "later")}
+
+    def on_a_machine(self, name: str, situation: Callable[[], None]) -> None:
+        """Lets a situation be on a machine of its own."""
+        if not is_inside():
+            status = run_inside(self, UNSHARE, **{PACKAGES: str(self.folder)})
+            self.same(f"{name}: it comes to its end", status, 0)
+            return
+        mount("-t", "tmpfs", "-o", "mode=755", "machine", str(MACHINES))
+        files = {**self.packages, **self.more_packages()}
+        self.on = Machine(self, name, files)
+        situation()
+
+
+class Installed(MachineCase):
+    """The packages on machines of their own, each in a situation of its own."""
 
     def test_life(self) -> None:
         self.on_a_machine("life", self.life)
@@ -567,22 +704,12 @@ class Installed(PackageCase):
     def test_other_user(self) -> None:
         self.on_a_machine("other_user", self.other_user)
 
-    def on_a_machine(self, name: str, situation: Callable[[], None]) -> None:
-        """Lets a situation be on a machine of its own."""
-        if not is_inside():
-            status = run_inside(self, UNSHARE, **{PACKAGES: str(self.folder)})
-            self.same(f"{name}: it comes to its end", status, 0)
-            return
-        mount("-t", "tmpfs", "-o", "mode=755", "machine", str(MACHINES))
-        files = {**self.packages, "later": later(self.packages["rmtd"], MACHINES), "dump": another_rdump(MACHINES)}
-        self.on = Machine(self, name, files)
-        situation()
-
     # The situations.
 
     def life(self) -> None:
         """From the installation to the purge."""
-        self.refused_beside_dump()
+        self.on.dpkg("--force-depends", "--purge", "dump")
+        self.on.install("rmtd", "rdump")
         self.installed()
         self.serves_tapes("installed")
         entry = b"/usr                             0 Tue Feb 29 00:00:00 2000\n"
@@ -707,23 +834,6 @@ class Installed(PackageCase):
         found = self.on.in_the_bin()
         self.same(f"{name}: the reel is in the bin", found.get("r1"), A_REEL, found)
 
-    def refused_beside_dump(self) -> None:
-        """Our rdump is not installed beside another one, and replaces nothing of it."""
-        on = self.on
-        if on.run("dpkg-query", "--status", "dump").returncode:
-            on.install("dump")
-        before = on.run("stat", "--format", "%N %i %Y", "/usr/sbin/rdump").stdout
-        got = on.dpkg("--install", "/tmp/rdump.deb")
-        found = (got.returncode, b"conflicting packages" in got.stdout)
-        self.same("beside dump: dpkg refuses rdump, and says why", found, (1, True), got.stdout)
-        self.same("beside dump: its rdump stays", on.run("stat", "--format", "%N %i %Y", "/usr/sbin/rdump").stdout, before)
-        self.same("beside dump: rsim is not there", on.exists("/usr/bin/rsim"), False)
-        on.install("rmtd")
-        self.same("beside dump: the server needs no other rdump", on.exists("/usr/sbin/rmtd"), True)
-        got = on.dpkg("--force-depends", "--purge", "dump")
-        self.same("beside dump: dump can be removed", got.returncode, 0, got.stdout)
-        on.install("rdump")
-
     def installed(self) -> None:
         """What an installation makes, and that it starts nothing."""
         on = self.on
@@ -810,3 +920,259 @@ class Installed(PackageCase):
         self.same("purged: the folders and the user stay", (on.modes(*FOLDERS), on.user("rmtd")[0]), (MADE[:-1], "rmtd"))
         got = on.dpkg("--purge", "rdump")
         self.same("purged: rdump can be purged", (got.returncode, on.exists("/usr/sbin/rdump")), (0, False), got.stdout)
+
+
+class Diverted(MachineCase):
+    """Our rdump and another one, that of the package dump: both are installed, ours is found as rdump, and nothing is lost."""
+
+    def more_packages(self) -> dict[str, Path]:
+        rdump = self.packages["rdump"]
+        return {
+            "sbin": dump_of("sbin", "1", MACHINES / "sbin"),
+            "usr_sbin": dump_of("usr/sbin", "2", MACHINES / "usr_sbin"),
+            "earlier": earlier(rdump, MACHINES / "earlier"),
+            "later": later(rdump, MACHINES / "later"),
+            "broken": broken(rdump, MACHINES / "broken"),
+            "another": packed(with_last_file(described("another", "1", MACHINES / "another"))),
+        }
+
+    def test_debians_dump(self) -> None:
+        if not is_inside() and ran("dpkg-query", "--status", "dump").returncode:
+            self.skipTest("Debian's dump is not installed on this machine")
+        self.on_a_machine("debians_dump", self.debians_dump)
+
+    def test_dump_first(self) -> None:
+        self.on_a_machine("dump_first", self.dump_first)
+
+    def test_rdump_first(self) -> None:
+        self.on_a_machine("rdump_first", self.rdump_first)
+
+    def test_dump_moves(self) -> None:
+        self.on_a_machine("dump_moves", self.dump_moves)
+
+    def test_upgrade(self) -> None:
+        self.on_a_machine("upgrade", self.upgrade)
+
+    def test_upgrade_beside_dump(self) -> None:
+        self.on_a_machine("upgrade_beside_dump", self.upgrade_beside_dump)
+
+    def test_failures(self) -> None:
+        self.on_a_machine("failures", self.failures)
+
+    def test_files_of_nobody(self) -> None:
+        self.on_a_machine("files_of_nobody", self.files_of_nobody)
+
+    def test_diversions_of_others(self) -> None:
+        self.on_a_machine("diversions_of_others", self.diversions_of_others)
+
+    # What is compared after each step.
+
+    def step(self, name: str, words: tuple[str, ...], wanted: Found, status: int = 0) -> bytes:
+        """Runs dpkg, and compares whose the files then are. dpkg finds no fault after it."""
+        got = self.on.dpkg(*words)
+        self.same(f"{name}: the status of dpkg", got.returncode, status, got.stdout)
+        self.same(f"{name}: whose the files are", self.found(), wanted, got.stdout)
+        if there := self.there():
+            self.same(f"{name}: dpkg --audit and dpkg --verify are silent", self.on.run(*AUDIT, *there).stdout, b"")
+        return got.stdout
+
+    def install(self, package: str, wanted: Found, name: str = "") -> None:
+        self.step(name or f"{self.on.name}: {package} is installed", ("--install", f"/tmp/{package}.deb"), wanted)
+
+    def remove(self, package: str, wanted: Found, how: str = "--remove") -> None:
+        self.step(f"{self.on.name}: {how} {package}", (how, package), wanted)
+
+    def refused(self, name: str, package: str, wanted: Found) -> bytes:
+        """A package is not installed, and what was there stays."""
+        return self.step(f"{self.on.name}: {name}", ("--install", f"/tmp/{package}.deb"), wanted, 1)
+
+    def there(self) -> list[str]:
+        """Which of the two packages are installed."""
+        return [it for it in ("dump", "rdump") if b"ii" in self.on.run("dpkg-query", "--show", "--showformat", "${db:Status-Abbrev}", it).stdout]
+
+    def found(self) -> Found:
+        """Whose the files are."""
+        return Found(*map(self.whose, PLACES))
+
+    def whose(self, path: str) -> str:
+        """Whose a file is."""
+        it = self.on.path(path)
+        if it.is_symlink():
+            return "dump's" if os.readlink(it) in ("dump", "dump.8.gz") else os.readlink(it)
+        if not it.exists():
+            return ""
+        content = it.read_bytes()
+        return "ours" if content[:4] == b"\x7fELF" or content[:2] == b"\x1f\x8b" else content.decode()
+
+    def diversions(self) -> list[str]:
+        """What is diverted, but for what others divert."""
+        return [it for it in self.on.done("dpkg-divert", "--list", "*rdump*").splitlines() if it.endswith(" by rdump")]
+
+    def nothing_diverted(self, name: str) -> None:
+        self.same(f"{self.on.name}: {name}: nothing is diverted", self.diversions(), [])
+
+    def clean(self) -> None:
+        """There is no dump, and nothing at all in the places. dpkg knows few packages, so that its steps are short."""
+        self.on.dpkg("--force-depends", "--purge", "dump")
+        self.same(f"{self.on.name}: nothing is there before", self.found(), Found())
+        database = self.on.path("/var/lib/dpkg")
+        known = [it for it in database.joinpath("status").read_text().split("\n\n") if it.split("\n")[0] in KNOWN]
+        database.joinpath("status").write_text("".join(f"{it}\n\n" for it in known))
+        for it in ("File", "Unincorp"):
+            database.joinpath("triggers", it).write_text("")
+
+    # The situations.
+
+    def debians_dump(self) -> None:
+        """Debian's own dump, which was there before."""
+        on = self.on
+        self.same("debians_dump: it is there", self.found(), DUMP_ALONE)
+        is_in_sbin = on.run("dpkg-query", "--search", "/sbin/rdump").returncode == 0
+        beside = BESIDE["sbin" if is_in_sbin else "usr_sbin"]
+        self.install("rdump", beside)
+        kept = PLACES[beside.index("dump's")]
+        got = on.run(kept)
+        self.holds("debians_dump: its rdump still runs", f"usage:\t{kept} [-level#]".encode() in got.stdout, got.stdout)
+        self.install("later", beside)
+        self.remove("rdump", DUMP_ALONE)
+        self.install("rdump", beside)
+        self.remove("rdump", DUMP_ALONE, "--purge")
+        self.nothing_diverted("purged")
+        self.install("rdump", beside)
+        self.step("debians_dump: it is removed", ("--force-depends", "--purge", "dump"), OURS)
+        self.remove("rdump", Found(), "--purge")
+
+    def dump_first(self) -> None:
+        """Our rdump is installed beside a dump that is there, wherever that has its rdump."""
+        self.clean()
+        self.on.install("rmtd")
+        for folder, beside in BESIDE.items():
+            self.install(folder, DUMP_ALONE)
+            self.install("rdump", beside)
+            self.same(f"dump_first: {folder}: what is diverted", len(self.diversions()), 3)
+            self.install("later", beside, f"dump_first: {folder}: upgraded")
+            self.install("later", beside, f"dump_first: {folder}: installed again")
+            self.install(folder, beside, f"dump_first: {folder}: dump is installed again")
+            self.remove("rdump", DUMP_ALONE)
+            self.nothing_diverted(f"{folder}: removed")
+            self.install("rdump", beside)
+            self.remove("dump", OURS, "--purge")
+            self.remove("rdump", Found(), "--purge")
+            self.nothing_diverted(f"{folder}: purged")
+
+    def rdump_first(self) -> None:
+        """Another dump is installed beside our rdump."""
+        self.clean()
+        for folder, beside in BESIDE.items():
+            self.install("rdump", OURS)
+            self.install(folder, beside)
+            self.install("later", beside, f"rdump_first: {folder}: upgraded")
+            self.remove("dump", OURS)
+            self.install(folder, beside, f"rdump_first: {folder}: dump is there again")
+            self.remove("rdump", DUMP_ALONE, "--purge")
+            self.nothing_diverted(f"{folder}: purged")
+            self.remove("dump", Found(), "--purge")
+
+    def dump_moves(self) -> None:
+        """A later dump has its rdump in /usr/sbin, and comes in the place of one that has it in /sbin."""
+        self.clean()
+        self.install("sbin", DUMP_ALONE)
+        self.install("rdump", BESIDE["sbin"])
+        self.install("usr_sbin", BESIDE["usr_sbin"])
+        self.step("dump_moves: and back", ("--force-downgrade", "--install", "/tmp/sbin.deb"), BESIDE["sbin"])
+        self.install("usr_sbin", BESIDE["usr_sbin"])
+        self.remove("rdump", DUMP_ALONE)
+
+    def upgrade(self) -> None:
+        """The package that kept dump away is upgraded. If that fails, nothing of it stays."""
+        on = self.on
+        self.clean()
+        on.install("another")
+        self.install("earlier", OURS)
+        self.refused("the earlier package keeps dump away", "sbin", OURS)
+        self.refused("an upgrade that fails", "broken", OURS)
+        self.nothing_diverted("an upgrade that fails")
+        self.same("upgrade: the earlier version stays", on.done("dpkg-query", "--show", "--showformat", "${Version}", "rdump"), "0.0.9")
+        self.install("rdump", OURS)
+        self.install("sbin", BESIDE["sbin"])
+        self.refused("a later upgrade that fails", "broken", BESIDE["sbin"])
+        self.same("upgrade: a later upgrade that fails leaves the diversions", len(self.diversions()), 3)
+        self.remove("rdump", DUMP_ALONE)
+
+    def upgrade_beside_dump(self) -> None:
+        """The earlier package was installed beside dump by force. What is left of dump's own stays."""
+        self.clean()
+        force = ("--force-conflicts", "--force-overwrite", "--install")
+        self.install("earlier", OURS)
+        self.on.dpkg(*force, "/tmp/sbin.deb")
+        self.same("upgrade_beside_dump: dump's own have taken the place of ours", self.found(), DUMP_ALONE)
+        self.install("rdump", BESIDE["sbin"])
+        self.remove("rdump", DUMP_ALONE, "--purge")
+        self.nothing_diverted("purged")
+
+    def failures(self) -> None:
+        """An installation that fails leaves all as it was, with dump and without."""
+        self.clean()
+        self.on.install("another")
+        self.refused("it fails without dump", "broken", Found())
+        self.nothing_diverted("it fails without dump")
+        for folder, beside in BESIDE.items():
+            self.install(folder, DUMP_ALONE)
+            self.refused(f"{folder}: it fails beside dump", "broken", DUMP_ALONE)
+            self.nothing_diverted(f"{folder}: it fails beside dump")
+            self.install("rdump", beside)
+            self.refused(f"{folder}: an upgrade fails", "broken", beside)
+            self.remove("rdump", DUMP_ALONE)
+            self.remove("dump", Found(), "--purge")
+
+    def files_of_nobody(self) -> None:
+        """Files that are no package's are kept and come back, or keep the package away."""
+        on = self.on
+        self.clean()
+        mine = Found("my program", "my page")
+        for path, text in zip(PLACES, mine):
+            if text:
+                on.path(path).write_text(text)
+        kept = OURS._replace(of_usr_sbin="my program", of_page="my page")
+        self.install("rdump", kept)
+        self.install("later", kept)
+        self.remove("rdump", mine, "--purge")
+        for it in PLACES[:2]:
+            on.path(it).unlink()
+        for folder in BESIDE:
+            self.install(folder, DUMP_ALONE)
+            for place in PLACES[2:]:
+                on.path(place).write_text("mine")
+                wanted = Found(*("mine" if it == place else whose for it, whose in zip(PLACES, DUMP_ALONE)))
+                said = self.refused(f"{folder}: {place} is there", "rdump", wanted)
+                is_named = f"/{Path(place).name} exists".encode() in said
+                self.holds(f"files_of_nobody: {folder}: {place} is named", is_named, said)
+                self.nothing_diverted(f"{folder}: {place} is there")
+                on.path(place).unlink()
+            self.remove("dump", Found(), "--purge")
+        # A file that was kept cannot come back where dump's own does.
+        on.path(PLACES.rdump).write_text("my program")
+        self.install("rdump", OURS._replace(of_usr_sbin="my program"))
+        self.install("sbin", BESIDE["sbin"]._replace(of_usr_sbin="my program"))
+        self.remove("rdump", DUMP_ALONE._replace(of_usr_sbin="my program"))
+        self.nothing_diverted("removed")
+
+    def diversions_of_others(self) -> None:
+        """The administrator has diverted a file of dump's already. That stays."""
+        on = self.on
+        self.clean()
+        self.install("sbin", DUMP_ALONE)
+        mine = "/usr/sbin/rdump.mine"
+        on.done("dpkg-divert", "--local", "--rename", "--divert", "/sbin/rdump.mine", "/sbin/rdump")
+        for step, wanted in (
+            (("--install", "/tmp/rdump.deb"), BESIDE["sbin"]._replace(of_sbin="")),
+            (("--install", "/tmp/later.deb"), BESIDE["sbin"]._replace(of_sbin="")),
+            (("--purge", "rdump"), Found(page="dump's")),
+        ):
+            self.step(f"diversions_of_others: {' '.join(step)}", step, wanted)
+            self.same(f"diversions_of_others: {' '.join(step)}: dump's own is where it was", self.whose(mine), "dump's")
+        self.nothing_diverted("purged")
+        # What the administrator diverts is diverted for our package too.
+        on.done("dpkg-divert", "--local", "--rename", "--divert", f"{PLACES.page}.mine", PLACES.page)
+        self.refused("our page has no place", "rdump", Found())
+        self.nothing_diverted("our page has no place")

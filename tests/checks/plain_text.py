@@ -17,6 +17,7 @@ from tests.lib.connections import NOWHERE
 from tests.lib.dumping import BLOCKS, LABEL, DumpCase, label, write_volume
 from tests.lib.ended import ABNORMAL, DONE, FAILED, Ended
 from tests.lib.played_servers import Model, Reel, Said
+from tests.lib.refusals import REWIND, refused_with
 from tests.lib.terminals import Terminal
 from tests.lib.waiting import GUARD_SECONDS
 from tests.lib.wire import DEVICE
@@ -89,7 +90,8 @@ class Client(PlainTextCase):
                 with Said(b"A0\n", b"E5\n" + text + b"\n", b"A0\n") as server:
                     got = self.ran("mt", "--to", server.address, "--device", DEVICE, "rewind", "1", shown=shown)
                 wanted = b"E5 " + (plain.encode() if shown else text) + b"\n"
-                self.same(f"mt, {title}, {place(shown)}", got, Ended(wanted, b"", ABNORMAL))
+                tells = f"rdump: {server.address}: {refused_with(5, REWIND)}".encode()
+                self.same(f"mt, {title}, {place(shown)}", got, Ended(wanted, tells, ABNORMAL))
 
     def test_first_records(self) -> None:
         """`rdump read` prints the first record of a reel: one that is no label, and a label."""

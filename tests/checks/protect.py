@@ -17,6 +17,7 @@ from tests.lib.connections import NOWHERE
 from tests.lib.dumping import BLOCKS, DAY, DAY_BEFORE, ENTRY, ONE_VOLUME, PAYLOAD, RESTORE, TWO_VOLUMES, DumpCase, lines_of, requests_of, write_volume
 from tests.lib.ended import ABNORMAL, DONE, FAILED, Ended
 from tests.lib.played_servers import Model, Reel, Said
+from tests.lib.refusals import refused
 from tests.lib.waiting import GUARD_SECONDS
 from tests.lib.wire import DEVICE
 from tests.models.rmtd import Entry
@@ -28,7 +29,6 @@ TWO_BLOCKS = 3100
 OPEN, REWIND, READ, SPACE, CLOSE = b"O/dev/st0\n0\n", b"I5\n1\n", b"R1024\n", b"I1\n1\n", b"C\n"
 EMPTY_LOOK = [OPEN, REWIND, READ, REWIND, SPACE, CLOSE]
 RECORD_LOOK = [OPEN, REWIND, READ, CLOSE]
-EIO = "Input/output error (os error 5)"
 
 
 def said_label(name: str = "/usr", level: int = 0, date: int = DAY, volume: int = 1) -> bytes:
@@ -37,14 +37,18 @@ def said_label(name: str = "/usr", level: int = 0, date: int = DAY, volume: int 
     return text + bytes(1024 - len(text))
 
 
-OTHER_LAY = "; lay another reel first, then answer yes\n"
-NO_LABEL = f"protected: the first reel of {DEVICE} begins with a record that is no label{OTHER_LAY}"
-MARK = f"protected: the first reel of {DEVICE} begins with a mark{OTHER_LAY}"
+NO_LABEL, MARK = "begins with a record that is no label", "begins with a mark"
 
 
 def other(said: str) -> str:
-    """What is told of a reel with a volume of another dump."""
-    return f"protected: the first reel of {DEVICE} has a volume of another dump: {said}{OTHER_LAY}"
+    """What is told that a reel of another dump has."""
+    return f"has a volume of another dump: {said}"
+
+
+def protected(address: str, what: str, device: str = DEVICE, word: str = DEVICE) -> str:
+    """What is told of a reel on which the dump does not write, with the command that takes it away."""
+    away = f"take it away (rdump mt --to {address} --device {word} offline 1) or lay another reel first, then answer yes"
+    return f"rdump: {address}: protected: the first reel of {device} {what}; {away}\n"
 
 
 OF_HOME = other(f"/home level 0 date {DAY}, volume 1")
@@ -136,7 +140,7 @@ class Reels(ProtectCase):
                 write_volume(at.address, list(it.entries))
                 before = at.stack.joinpath("r1").read_bytes()
                 got = self.p.dump(at.address, "--protect")
-                self.told(it.title, got, HELD, ABNORMAL, f"rdump: {at.address}: {it.tells}")
+                self.told(it.title, got, HELD, ABNORMAL, protected(at.address, it.tells))
                 self.same(f"{it.title}: the reel", (at.stack.joinpath("r1").read_bytes(), at.binned()), (before, []))
                 got = self.p.run("mt", "--to", at.address, "--device", DEVICE, "nop", "1")
                 self.same(f"{it.title}: the drive is free", got.output, "A1\n")
@@ -150,15 +154,26 @@ class Reels(ProtectCase):
 
     def test_no_reel(self) -> None:
         with self.site() as at:
-            words = f"rdump: {at.address}: the look failed: open: Refused 6: No such device or address (os error 6)\n"
+            words = f"rdump: {at.address}: the look failed: open: {refused(6, 'open')}"
             self.told("an empty stack", self.p.dump(at.address, "--protect"), HELD, ABNORMAL, words)
-            words = f"rdump: {at.address}: the look failed: open: Refused 2: No such file or directory (os error 2)\n"
+            words = f"rdump: {at.address}: the look failed: open: {refused(2, 'open', '/dev/st9')}"
             self.told("no such drive", self.p.dump(at.address, "--protect", device="/dev/st9"), HELD, ABNORMAL, words)
 
     def test_a_reel_in_memory(self) -> None:
         with self.p.listening() as (address, _):
             write_volume(address, [said_label(name="/home"), None])
-            self.told("a reel in memory", self.p.dump(address, "--protect"), HELD, ABNORMAL, f"rdump: {address}: {OF_HOME}")
+            self.told("a reel in memory", self.p.dump(address, "--protect"), HELD, ABNORMAL, protected(address, OF_HOME))
+
+    def test_the_command(self) -> None:
+        """It takes the reel away. A drive with a space stands in quotes as a word."""
+        with self.site("r1") as at:
+            write_volume(at.address, [said_label(name="/home"), None])
+            command = self.p.dump(at.address, "--protect").told.split("(")[1].split(")")[0].split()
+            self.same("the command", self.p.run(*command[1:]).output, "A1\n")
+            self.same("the command: the reel", at.binned(), ["r1"])
+        with Said(b"A0\n", b"A1\n", b"A1\nx", b"A0\n") as server:
+            got = self.p.dump(server.address, "--protect", device="/dev/st 0")
+        self.told("a drive with a space", got, HELD, ABNORMAL, protected(server.address, NO_LABEL, "/dev/st 0", "'/dev/st 0'"))
 
     def test_without_the_word(self) -> None:
         """A reel of another dump is written over, and standard error says whose it was."""
@@ -174,8 +189,7 @@ class Reels(ProtectCase):
         # The first look has six requests. The label is the fifth request of the attempt, and the first block the sixth.
         with Model(Reel("r1", 1 << 20), said={12: b"E5\nbroken\n"}) as model:
             got = self.p.dump(model.address, "--protect", said="yes\n")
-        reason = f"rdump: {model.address}: Refused 5: {EIO}\n"
-        reason += f"rdump: {model.address}: look in the server's log, and in the bin for a file of this reel's name\n"
+        reason = f"rdump: {model.address}: {refused(5, 'write')}"
         self.told("a label that was left", got, f"volume 1 failed: Refused 5\nretry?\n{ONE_VOLUME}", DONE, f"{reason}{THIS_REEL}1\n")
         # With the close of the first attempt its reel is laid on the stack again.
         closed = len(EMPTY_LOOK) + len(requests_of(1, 0, BLOCKS))
@@ -239,13 +253,13 @@ REFUSED = b"E5\nbroken\n"
 LOOKED = (b"A0\n", b"A1\n", b"A0\n", b"A1\n", REFUSED, b"A0\n")
 # Replies of which one or two are refusals, what is told then, and how many requests are sent.
 REFUSALS: tuple[tuple[str, tuple[bytes, ...], str, int], ...] = (
-    ("the open", (b"E16\nbusy\n",), "open: Refused 16: Device or resource busy (os error 16)", 1),
-    ("the rewind", (b"A0\n", REFUSED, b"A0\n"), f"rewind: Refused 5: {EIO}", 3),
-    ("the read", (b"A0\n", b"A1\n", REFUSED, b"A0\n"), f"read: Refused 5: {EIO}", 4),
-    ("the second rewind", (b"A0\n", b"A1\n", b"A0\n", REFUSED, b"A0\n"), f"rewind: Refused 5: {EIO}", 5),
-    ("the mark", (b"A0\n", b"A1\n", b"A0\n", b"A1\n", b"E9\nno\n", b"A0\n"), "space: Refused 9: Bad file descriptor (os error 9)", 6),
-    ("the close", (b"A0\n", b"A1\n", b"A0\n", b"A1\n", REFUSED, REFUSED), f"close: Refused 5: {EIO}", 6),
-    ("the read and the close", (b"A0\n", b"A1\n", REFUSED, b"E9\nno\n"), f"read: Refused 5: {EIO}", 4),
+    ("the open", (b"E16\nbusy\n",), f"open: {refused(16, 'open')}", 1),
+    ("the rewind", (b"A0\n", REFUSED, b"A0\n"), f"rewind: {refused(5, 'rewind')}", 3),
+    ("the read", (b"A0\n", b"A1\n", REFUSED, b"A0\n"), f"read: {refused(5, 'read')}", 4),
+    ("the second rewind", (b"A0\n", b"A1\n", b"A0\n", REFUSED, b"A0\n"), f"rewind: {refused(5, 'rewind')}", 5),
+    ("the mark", (b"A0\n", b"A1\n", b"A0\n", b"A1\n", b"E9\nno\n", b"A0\n"), f"space: {refused(9, 'space')}", 6),
+    ("the close", (b"A0\n", b"A1\n", b"A0\n", b"A1\n", REFUSED, REFUSED), f"close: {refused(5, 'close')}", 6),
+    ("the read and the close", (b"A0\n", b"A1\n", REFUSED, b"E9\nno\n"), f"read: {refused(5, 'read')}", 4),
 )
 
 
@@ -256,7 +270,7 @@ class LooksThatFail(ProtectCase):
         for title, replies, tells, sent in REFUSALS:
             with Model(said=dict(enumerate(replies, 1))) as server:
                 got = self.p.dump(server.address, "--protect")
-            self.told(f"refused: {title}", got, HELD, ABNORMAL, f"rdump: {server.address}: the look failed: {tells}\n")
+            self.told(f"refused: {title}", got, HELD, ABNORMAL, f"rdump: {server.address}: the look failed: {tells}")
             wanted = [*EMPTY_LOOK[: sent - 1], CLOSE] if sent > 1 else [OPEN]
             self.same(f"refused: {title}: what is sent", server.logs, [wanted])
 
@@ -286,7 +300,7 @@ class Answers(ProtectCase):
     def test_the_same_reel(self) -> None:
         with self.site("r1") as at:
             write_volume(at.address, [said_label(name="/home"), None])
-            line = f"rdump: {at.address}: {OF_HOME}"
+            line = protected(at.address, OF_HOME)
             for said, times in (("no\n", 1), ("", 1), ("yes!\n", 1), ("Yes\n", 1), ("yes\nno\n", 2), ("yes\nyes\n", 3)):
                 got = self.p.dump(at.address, "--protect", said=said)
                 self.told(f"answered by {said!r}", got, "retry?\n" * times + "dump abandoned\n", ABNORMAL, line * times)
@@ -298,7 +312,7 @@ class Answers(ProtectCase):
                 self.same("exchanged: asked", lines_of(client, 1), "retry?\n")
                 at.stack.joinpath("r1").rename(at.stack.parent / "shelf")
                 at.stack.joinpath("r2").touch()
-                self.told("exchanged: complete", self.end_of(client, b"yes\n"), ONE_VOLUME, DONE, f"rdump: {at.address}: {OF_HOME}")
+                self.told("exchanged: complete", self.end_of(client, b"yes\n"), ONE_VOLUME, DONE, protected(at.address, OF_HOME))
             self.same("exchanged: the reel", at.binned(), ["r2"])
         self.same("exchanged: the entry", self.p.text("dumpdates"), ENTRY)
 
@@ -324,7 +338,7 @@ class Going(ProtectCase):
         """The dump is abandoned at the second reel, which keeps its bytes, and leaves no checkpoint."""
         held = at.stack.joinpath("r2").read_bytes()
         got = self.p.dump(at.address, *words, "--protect")
-        self.told(f"{title}: abandoned", got, f"{self.first}{HELD}", ABNORMAL, f"rdump: {at.address}: {OF_HOME}")
+        self.told(f"{title}: abandoned", got, f"{self.first}{HELD}", ABNORMAL, protected(at.address, OF_HOME))
         self.same(f"{title}: no checkpoint", self.p.folder.joinpath("kept").exists(), False)
         self.same(f"{title}: the reel", at.stack.joinpath("r2").read_bytes(), held)
 
@@ -334,7 +348,7 @@ class Going(ProtectCase):
             self.same(f"{title}: asked", lines_of(client, 2), f"{self.first}retry?\n")
             self.same(f"{title}: the checkpoint", self.p.folder.joinpath("kept").exists(), bool(words))
             at.stack.joinpath("r2").rename(at.stack.parent / "shelf")
-            self.told(f"{title}: complete", self.end_of(client, b"yes\n"), self.last, DONE, f"rdump: {at.address}: {OF_HOME}")
+            self.told(f"{title}: complete", self.end_of(client, b"yes\n"), self.last, DONE, protected(at.address, OF_HOME))
         self.same(f"{title}: the volumes", at.binned(), ["r1", "r3"])
 
     def test_the_date_of_a_checkpoint(self) -> None:
@@ -346,7 +360,7 @@ class Going(ProtectCase):
                 write_volume(at.address, [said_label(date=date), None])
                 got = self.p.dump(at.address, "--checkpoint", "kept", "--protect")
                 own = "this reel has: /usr level 0 2000-02-28, volume 1\n"
-                tells = own if status == DONE else f"rdump: {at.address}: {other(f'/usr level 0 date {DAY}, volume 1')}"
+                tells = own if status == DONE else protected(at.address, other(f"/usr level 0 date {DAY}, volume 1"))
                 self.told(f"a reel of {title} date", got, output, status, f"going on: 0 volumes, 0 blocks of 3 counted\n{tells}")
 
 

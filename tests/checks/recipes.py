@@ -48,6 +48,9 @@ AT_ONCE = 4
 
 RECIPES = all_recipes()
 
+# What ends the messages about a reel that is protected, and what begins those about a reel that is no volume.
+AWAY = "take it away (rdump mt --to ADDRESS --device DEVICE offline 1) or lay another reel first, then answer yes"
+FOREIGN = "rdump: ADDRESS: the first reel of DEVICE is not a volume of rdump:"
 # The messages that no recipe shows, each with the reason.
 UNSHOWN = {
     "error: invalid value for '--idle <SECONDS>': a number is 0 to 9223372036854775807 in digits": "tests/checks/doors.py shows it",
@@ -82,12 +85,12 @@ UNSHOWN = {
     "rdump: ADDRESS: a block of N bytes after one of N": "tests/checks/restore.py shows it: it takes a reel that no dump makes",
     "rdump: ADDRESS: cannot be told": "tests/checks/restore.py shows it: it takes a server that answers in another way",
     "rdump: ADDRESS: no mark": "tests/checks/restore.py shows it: it takes a reel whose mark is lost",
-    "rdump: ADDRESS: protected: the first reel of DEVICE begins with a mark; lay another reel first, then answer yes": (
-        "tests/checks/protect.py shows it"
-    ),
-    "rdump: ADDRESS: protected: the first reel of DEVICE begins with a record that is no label; lay another reel first, then answer yes": (
-        "tests/checks/protect.py shows it"
-    ),
+    f"rdump: ADDRESS: protected: the first reel of DEVICE begins with a mark; {AWAY}": "tests/checks/protect.py shows it",
+    f"rdump: ADDRESS: protected: the first reel of DEVICE begins with a record that is no label; {AWAY}": "tests/checks/protect.py shows it",
+    f"{FOREIGN} it begins with a mark": "tests/checks/restore.py shows it: it takes a reel that no dump makes",
+    f"{FOREIGN} it begins with a record that is no label": "tests/checks/told.py shows it: it takes a reel that no dump makes",
+    f"{FOREIGN} it is empty, or begins with a mark": "tests/checks/restore.py shows it: it takes a server that answers in another way",
+    f"{FOREIGN} it is empty, status 3": "tests/checks/restore.py shows it",
     "rdump: ADDRESS: the reel has volume N of NAME level N, another dump, status 0": "tests/checks/restore.py shows it, with --length",
     "rdump: FILE.new: it is not one that rdump left: it is not touched": "tests/checks/new_files.py shows it",
     "rdump: FILE: another file took its place while it was opened": "it takes an exchange between two calls of the system",
@@ -99,6 +102,8 @@ UNSHOWN = {
     "rdump: FILE: it could not be read or replaced: add this line:": "it takes a failure for which the system has no reason",
     "rdump: FILE: it could not be removed": "it takes a failure for which the system has no reason",
     "rdump: FILE: it is no dumpdates file, status 3": "tests/checks/updates.py shows it: the file has to change while a dump runs",
+    "rdump: FILE: it has more than 256 MiB": "tests/checks/new_files.py shows it",
+    "rdump: FILE: it is empty: the dump has no block": "tests/checks/told.py shows it",
     "rdump: FILE: it is no plain file": "tests/checks/restore.py shows it",
     "rdump: FILE: it is the checkpoint file too: FILE": "tests/checks/new_files.py shows others of this form",
     "rdump: FILE: it is the dumpdates file too: FILE": "tests/checks/new_files.py shows others of this form",
@@ -113,8 +118,15 @@ UNSHOWN = {
     "rdump: FILE: its .new is the .new of the dumpdates file too: FILE": "tests/checks/new_files.py shows others of this form",
     "rdump: FILE: its .new is the .new of the sums file too: FILE": "tests/checks/new_files.py shows others of this form",
     "rdump: FILE: its .new was locked for ten seconds": "tests/checks/updates.py shows it, and waits for it beside other checks",
+    "rdump: FILE: its block size is N, and that of this dump is N": "tests/checks/checkpoint.py shows it",
+    "rdump: FILE: its device is DEVICE, and that of this dump is DEVICE": "tests/checks/checkpoint.py shows it",
+    "rdump: FILE: its name is NAME, and that of this dump is NAME": "tests/checks/checkpoint.py shows it",
+    "rdump: FILE: its number of blocks is N, and that of this dump is N": "tests/checks/checkpoint.py shows it",
     "rdump: FILE: its folder could not be synced": "tests/checks/restore.py shows it: it takes a sync that fails",
     "rdump: FILE: its length could not be read": "tests/checks/faults.py shows it: it takes a disk that fails between two calls",
+    "rdump: FILE: line N has a zone offset after the year, as dump(8) of Linux writes it: rdump keeps a file of its own": (
+        "tests/checks/dates.py shows it"
+    ),
     "rdump: FILE: line N: bad date": "tests/checks/ls.py shows it",
     "rdump: FILE: line N: bad line": "tests/checks/ls.py shows it",
     "rdump: FILE: N bytes, fewer than N": "tests/checks/restore.py shows it",

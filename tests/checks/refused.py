@@ -20,6 +20,7 @@ from tests.lib.connections import TCP, UNIX, Address, address_in, connected
 from tests.lib.drives import Held, drive_words, folders, held
 from tests.lib.ended import ABNORMAL, DONE, FAILED
 from tests.lib.given import given
+from tests.lib.places import is_unproved
 from tests.lib.processes import guarded
 from tests.lib.servers import at_drive
 from tests.lib.shimmed import (
@@ -81,6 +82,11 @@ class Sweep(NamedTuple, Generic[S]):
 
 class RefusedCase(SiteCase):
     """Tests of programs to which memory is refused."""
+
+    def setUp(self) -> None:
+        super().setUp()
+        if any(map(is_unproved, ("rmtd", "rdump", "rsim"))):
+            self.skipTest("programs that are not proved take memory in another way")
 
     def swept(self, sweep: Sweep[S]) -> list[Ran[S]]:
         """Makes all the runs, and returns what came."""

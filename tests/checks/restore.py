@@ -24,10 +24,14 @@ from tests.lib.dumping import DAY
 from tests.lib.ended import ABNORMAL, DONE, FAILED, Ended
 from tests.lib.listeners import Relay
 from tests.lib.played_servers import Model, Reel
+from tests.lib.refusals import refused_with
 from tests.lib.restores import (
     BINNED,
     BLOCK,
-    FOREIGN,
+    EMPTY,
+    EMPTY_OR_MARK,
+    MARK,
+    NO_LABEL,
     PADDED,
     PAYLOAD,
     UNKNOWN,
@@ -38,6 +42,7 @@ from tests.lib.restores import (
     blocks,
     counted,
     entries,
+    foreign,
     loaded,
     named,
     read,
@@ -63,6 +68,8 @@ BLOCKS = VOLUMES[-1][1]
 
 OPEN, REWIND, READ, OFFLINE, CLOSE = b"O/dev/st0\n0\n", b"I5\n1\n", b"R262144\n", b"I6\n1\n", b"C\n"
 BACK, OVER = b"I4\n1\n", b"I1\n1\n"
+# What a look asks of a reel that gives no record.
+EMPTY_LOOK = [OPEN, REWIND, b"R1024\n", REWIND, OVER, CLOSE]
 
 
 def binned(*volumes: int) -> str:
@@ -166,7 +173,8 @@ class Whole(RestoreCase):
         """Over a file that is longer: its old bytes are gone."""
         self.put_out(PADDED[:3072])
         with stacked(self.p, images([b"hello", b"wor", b"ld", None])) as site:
-            self.told("a reel of another", site.read("--length", "4"), "hello", DONE, "2 blocks of 2 to 3 bytes, 5 bytes in all\n" + FOREIGN)
+            tells = "2 blocks of 2 to 3 bytes, 5 bytes in all\n" + foreign(site.address, NO_LABEL)
+            self.told("a reel of another", site.read("--length", "4"), "hello", DONE, tells)
         self.file_holds("a reel of another", self.out, b"worl")
 
 
@@ -202,6 +210,11 @@ FOREIGN_REELS = (
 # Those of them of which no record is read, and those that have nothing before a mark.
 NO_RECORDS = ("an empty reel", "a tail that is no record")
 NO_DATA = (*NO_RECORDS, "a mark")
+
+
+def front_of(name: str) -> str:
+    """What a reel that is no volume begins with."""
+    return EMPTY if name in NO_RECORDS else MARK if name.startswith("a mark") else NO_LABEL
 
 
 class Missing(RestoreCase):
@@ -311,33 +324,35 @@ class Missing(RestoreCase):
             for more in WAYS:
                 with stacked(self.p, data, reel(2)) as site:
                     self.p.file("old", b"old")
+                    tells = foreign(site.address, front_of(name))
                     for out in ("old", "new"):
-                        self.told(f"{name}, {more}, {out}", site.read(*more, "--length", "1", out=out), "", ABNORMAL, FOREIGN)
+                        self.told(f"{name}, {more}, {out}", site.read(*more, "--length", "1", out=out), "", ABNORMAL, tells)
                     site.reels(f"{name}, {more}", named(data, reel(2)), {})
                     self.file_holds(f"{name}, {more}: old", self.p.folder / "old", b"old")
                     self.file_holds(f"{name}, {more}: new", self.p.folder / "new", None)
             if name in NO_DATA:
                 with stacked(self.p, data) as site:
-                    self.told(f"{name}, a length alone", site.read("--length", "1", out="old"), "", DONE, FOREIGN)
+                    self.told(f"{name}, a length alone", site.read("--length", "1", out="old"), "", DONE, foreign(site.address, front_of(name)))
                 self.file_holds(f"{name}, a length alone", self.p.folder / "old", b"old")
 
     def test_no_volumes_in_a_stack(self) -> None:
         for name, data in FOREIGN_REELS:
             with stacked(self.p, reel(1), data, reel(2)) as site:
-                tells = NO_RECORD + UNKNOWN if name in NO_RECORDS else FOREIGN
+                tells = NO_RECORD + UNKNOWN if name in NO_RECORDS else foreign(site.address, front_of(name))
                 self.told(f"{name} in a stack", site.read("--all"), texts(1), ABNORMAL, binned(1) + tells)
                 site.reels(f"{name} in a stack", {"r001": data, "r002": reel(2)}, {"r000": reel(1)})
 
     def test_first_reels_without_a_record(self) -> None:
-        """Such a reel is no end of a dump if no volume was read before, and what is sent there is as ever."""
+        """Such a reel is no end of a dump if no volume was read before. A look finds out whether it is empty."""
         rows: tuple[list[Entry], ...] = ([], [None])
         for entries_of in rows:
             for more in (("--all",), ("--place",), ("--all", "--length", "0")):
                 first = Reel("r1", 1 << 20)
                 first.entries = list(entries_of)
                 with Model(first) as model:
-                    self.told(f"{entries_of} first {more}", read(self.p, model.address, *more), "", ABNORMAL, FOREIGN)
-                    self.same(f"{entries_of} first {more}: what is sent", model.logs, [[OPEN, REWIND, READ, CLOSE]])
+                    tells = foreign(model.address, MARK if entries_of else EMPTY)
+                    self.told(f"{entries_of} first {more}", read(self.p, model.address, *more), "", ABNORMAL, tells)
+                    self.same(f"{entries_of} first {more}: what is sent", model.logs, [[OPEN, REWIND, READ, CLOSE], EMPTY_LOOK])
 
     def test_blocks_of_two_lengths(self) -> None:
         """They have no places: what came before stays written, and the reel stays."""
@@ -473,7 +488,7 @@ class Files(RestoreCase):
     def test_progress_of_a_reel_without_a_label(self) -> None:
         with stacked(self.p, images([b"abc", b"x" * BLOCK, None])) as site, Terminal() as terminal:
             got, text = site.read(out="foreign", stderr=terminal.far), terminal.shown()
-        wanted = f"\rblock 1, 0 KiB/s\x1b[K{CLEAR}" + (sizes(1) + FOREIGN).replace("\n", "\r\n")
+        wanted = f"\rblock 1, 0 KiB/s\x1b[K{CLEAR}" + (sizes(1) + foreign(site.address, NO_LABEL)).replace("\n", "\r\n")
         self.same("a reel without a label on a terminal", (got.output, got.status, text), ("abc", DONE, wanted))
 
 
@@ -562,7 +577,7 @@ class Requests(RestoreCase):
             self.same("a stack: what is sent", (got.status, model.logs), (DONE, [*(GONE[it - 1] for it in (2, 3, 1)), [OPEN]]), got)
             self.same("a stack: each request after a reply", model.ahead, False)
             got = read(self.p, model.address, "--all", out="new")
-            self.told("a stack that is over", got, "", ABNORMAL, f"rdump: {model.address}: open refused with E6\n")
+            self.told("a stack that is over", got, "", ABNORMAL, f"rdump: {model.address}: {refused_with(6, 'open')}")
             self.file_holds("a stack that is over", self.p.folder / "new", None)
 
     def test_order_of_the_calls(self) -> None:
@@ -634,7 +649,7 @@ class Requests(RestoreCase):
     def request_fails(self, number: int, kind: str, way: str) -> None:
         """A request of the second volume, counted from 0. The first volume takes twelve requests."""
         replies = {"refused": b"E5\nno\n", "botched": b"x", "lost": None}
-        faults = {"refused": f"{kind} refused with E5", "botched": "no reply by the protocol", "lost": "the connection ended"}
+        faults = {"refused": refused_with(5, kind)[:-1], "botched": "no reply by the protocol", "lost": "the connection ended"}
         name = f"request {number} ({kind}) {way}"
         self.put_out()
         with loaded(1, 2, 3, replies={13 + number: replies[way]}) as model:
@@ -768,9 +783,9 @@ BEHIND = (
     Behind("an empty reel", (b"", OTHER), NO_RECORD, True),
     Behind("half a record", (reel(1)[:500],), NO_RECORD, True),
     Behind("another dump", (OTHER, b""), OTHER_LINE, True),
-    Behind("a mark", (images([None]),), FOREIGN, False),
-    Behind("a mark and a volume", (images([None, *entries(3)]),), FOREIGN, False),
-    Behind("text", (images([b"hello", None]),), FOREIGN, False),
+    Behind("a mark", (images([None]),), foreign("{}", MARK), False),
+    Behind("a mark and a volume", (images([None, *entries(3)]),), foreign("{}", MARK), False),
+    Behind("text", (images([b"hello", None]),), foreign("{}", NO_LABEL), False),
 )
 # Volumes that are read, and the length that is given, if any.
 LENGTHS = (
@@ -873,14 +888,15 @@ class Ends(RestoreCase):
 
     def test_an_empty_reel_behind_a_volume(self) -> None:
         """What is asked of it, and each reply: it is taken for empty only if MTFSF is refused with 5 and the close is done."""
-        asked = [OPEN, REWIND, b"R1024\n", REWIND, OVER, CLOSE]
+        asked = EMPTY_LOOK
         begun = len(GONE[0]) + 4
         for title, number, reply, is_empty in EMPTIES:
             self.put_out()
             with loaded(1, replies={begun + number: reply}) as model:
                 model.stack.append(Reel("r2", 1 << 20))
                 got = read(self.p, model.address, "--all", "--length", "2048")
-                self.told(title, got, texts(1), DONE if is_empty else ABNORMAL, binned(1) + (NO_RECORD if is_empty else FOREIGN))
+                tells = NO_RECORD if is_empty else foreign(model.address, MARK if title == "a mark" else EMPTY_OR_MARK)
+                self.told(title, got, texts(1), DONE if is_empty else ABNORMAL, binned(1) + tells)
                 sent = [OPEN] if number == 1 else asked[:5] if reply in (None, b"x") else asked if number > 4 else [*asked[:number], CLOSE]
                 self.same(f"{title}: what is sent", model.logs, [GONE[0], [OPEN, REWIND, READ, CLOSE], sent])
                 self.same(f"{title}: the reel", [it.name for it in model.stack], ["r2"])

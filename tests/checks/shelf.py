@@ -8,6 +8,7 @@ first in PATH.
 from __future__ import annotations
 
 import os
+import re
 import subprocess
 import tempfile
 import time
@@ -19,7 +20,7 @@ from tests.checks.night import Mail
 from tests.lib.case import Case
 from tests.lib.ended import DONE
 from tests.lib.listings import Label
-from tests.lib.places import built
+from tests.lib.places import TOP, built
 from tests.lib.unattended import TO_SHELF, moved_clock, set_clock
 from tests.lib.waiting import GUARD_SECONDS
 from tests.models.rmtd import images
@@ -457,3 +458,32 @@ class WhatCame(ShelfCase):
         mail = self.run_at("2026-11-03 02:00")
         self.same("two names: no dump came", (mail.status, "no dump came" in mail.text), (1, True), mail)
         self.same("two names: one is left", (list(self.bin.iterdir()), [*self.held()]), ([], [folder_of(OLD)]))
+
+
+class ReelsOfOneDump(ShelfCase):
+    """How docs/OPERATING.md picks the reels of one dump from a shelf of many."""
+
+    def test_reels(self) -> None:
+        """Those of another name, level or date stay, and those that are not whole, whatever the bytes of the names are."""
+        (command,) = re.findall(r"(?m)^rdump ls /srv/tape/shelf/\* \|.*> reels$", TOP.joinpath("docs/OPERATING.md").read_text())
+        names = ("/usr", "/usr.*", "[/usr]", "ann:/usr", "a|/usr\\\\", "/", "//usr")
+        dumps = [Dump(when, 5, level, FIRST, name) for name in names for level in (0, 1) for when in (OLD, NEW)]
+        wanted: dict[Dump, list[str]] = {}
+        for number, dump in enumerate(dumps):
+            day = self.shelf / folder_of(dump.when)
+            day.mkdir(exist_ok=True)
+            for volume, data in enumerate(dump.reels().values(), 1):
+                path = day / f"{number}: *[a] usr level 0 '\\\\ \"$x\" \u00e9 {volume} "
+                path.write_bytes(data)
+                wanted.setdefault(dump, []).append(str(path))
+            (day / f"{number} cut").write_bytes(data[:-4])
+        for dump in dumps:
+            got = subprocess.run(
+                ("sh", "-c", command.replace("/srv/tape/shelf", str(self.shelf))),
+                cwd=self.folder,
+                env={**os.environ, "PATH": f"{self.programs}:{os.environ['PATH']}", "dump": dump.number().rstrip()},
+                capture_output=True,
+                timeout=GUARD_SECONDS,
+                check=False,
+            )
+            self.same(f"{dump.number()}: its reels", (self.folder / "reels").read_text().splitlines(), wanted[dump], got)

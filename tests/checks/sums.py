@@ -28,13 +28,27 @@ from tests.lib.checkpoints import kept as kept_text
 from tests.lib.checkpoints import small_disk, stopped_at, two
 from tests.lib.connections import NOWHERE
 from tests.lib.drives import data_of
-from tests.lib.dumping import BLOCKS, DAY, ENTRY, IN_LITTLE_ROOM, PAYLOAD, RESTORE, ROOM, TWO_VOLUMES, Programs, end_of, label, without_restore
+from tests.lib.dumping import (
+    BLOCKS,
+    DAY,
+    ENTRY,
+    IN_LITTLE_ROOM,
+    NO_BLOCK,
+    PAYLOAD,
+    RESTORE,
+    ROOM,
+    TWO_VOLUMES,
+    Programs,
+    end_of,
+    label,
+    without_restore,
+)
 from tests.lib.ended import ABNORMAL, DONE, FAILED, Ended
 from tests.lib.given import given
 from tests.lib.listings import NOBODY, Label
 from tests.lib.places import built
 from tests.lib.played_servers import Granting, Model, Reel
-from tests.lib.restores import BINNED, FOREIGN
+from tests.lib.restores import BINNED
 from tests.lib.restores import UNKNOWN as END_UNKNOWN
 from tests.lib.restores import RestoreCase, counted
 from tests.lib.shim import compiled
@@ -289,7 +303,7 @@ class Dumps(SumsCase):
             volumes = volumes_of(-(-size // block), block, capacity)
             self.kept.unlink(missing_ok=True)
             with site(self.p, len(volumes) + 1, capacity) as it:
-                self.ends(title, it.dump(block=str(block)), printed(volumes), DONE)
+                self.ends(title, it.dump(block=str(block)), printed(volumes), DONE, *(() if size else (NO_BLOCK,)))
                 self.are_kept(title, it, reels_of(payload, block, volumes))
                 bin = it.folder / "bin"
                 paths = {str(bin / name): data for name, data in it.bin().items()}
@@ -634,8 +648,8 @@ class Kinds(SumsCase):
     def test_files_that_it_may_not_be(self) -> None:
         self.p.folder.joinpath("folder").mkdir()
         os.mkfifo(self.p.folder / "pipe")
-        for path, why in (("folder", r"Is a directory \(os error 21\)"), ("pipe", "it is no plain file")):
-            self.refused(f"it is a {path}", rf"rdump: {path}: {why}\n", "--sums", path)
+        for path in ("folder", "pipe", "/dev/zero", "/dev/full", "/dev/null"):
+            self.refused(f"it is {path}", rf"rdump: {path}: it is no plain file\n", "--sums", path)
         self.refused("it is in no folder", r"rdump: no/sums: .*No such file or directory \(os error 2\).*\n", "--sums", "no/sums")
 
     def test_bad_words(self) -> None:
@@ -1279,7 +1293,8 @@ class Reads(SumsCase):
                     with restores.stacked(self.p, data) as site:
                         plain, got = site.read(*more, out="plain"), site.read(*SUMS, *more)
                         self.same(f"{title} {more}: as without the word", got, plain)
-                        self.same(f"{title} {more}: no sum is told", ("sum" in got.told, FOREIGN in got.told), (False, True), got)
+                        seen = ("sum" in got.told, "is not a volume of rdump: " in got.told)
+                        self.same(f"{title} {more}: no sum is told", seen, (False, True), got)
                         site.reels(f"{title} {more}", restores.named(data), {})
 
     def test_more_behind_the_mark(self) -> None:

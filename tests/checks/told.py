@@ -19,10 +19,12 @@ from pathlib import Path
 from typing import Iterator
 
 from tests.lib.connections import NOWHERE, reset_at_close
-from tests.lib.dumping import BLOCKS, DAY, EMPTY_VOLUME, ENTRY, LABEL, LOST, PAYLOAD, TWO_VOLUMES, DumpCase, label, lines_of, write_volume
+from tests.lib.dumping import BLOCKS, DAY, EMPTY_VOLUME, ENTRY, LABEL, LOST, NO_BLOCK, PAYLOAD, TWO_VOLUMES, DumpCase, label, lines_of, write_volume
 from tests.lib.ended import ABNORMAL, DONE, FAILED, Ended
 from tests.lib.played_servers import Model, Reel, Said
 from tests.lib.processes import peak_of
+from tests.lib.refusals import OPEN, READ, refused, refused_with
+from tests.lib.restores import EMPTY, NO_LABEL, foreign
 from tests.lib.terminals import CLEAR, Terminal
 from tests.lib.waiting import GUARD_SECONDS
 from tests.lib.wire import DEVICE, record
@@ -58,22 +60,22 @@ class Volumes(TellCase):
     """What is told of a volume that is read back."""
 
     def test_volumes(self) -> None:
-        foreign = "not a volume of rdump\n"
         words = LABEL.splitlines(keepends=True)
-        rows: tuple[tuple[str, bytes, list[bytes], str], ...] = (
-            ("three blocks", label(1, 0), BLOCKS, "3 blocks of 1024 bytes\n"),
-            ("no block", label(1, 0), [], "0 blocks\n"),
-            ("one block", label(1, 0), BLOCKS[:1], "1 block of 1024 bytes\n"),
-            ("several lengths", label(1, 0), [b"x", BLOCKS[0], b"yy"], "3 blocks of 1 to 1024 bytes, 1027 bytes in all\n"),
-            ("a reel of another", b"hello", [b"world"], "1 block of 5 bytes\n" + foreign),
-            ("a label with a word less", "".join(words[:-1]).encode() + bytes(64), [], "0 blocks\n" + foreign),
-            ("a label with a word more", LABEL.encode() + b"more 1\n" + bytes(64), [], "0 blocks\n" + foreign),
-            ("a label without a number", LABEL.replace("level 0", "level ").encode(), [], "0 blocks\n" + foreign),
-            ("words in another order", "".join(reversed(words)).encode(), [], "0 blocks\n" + foreign),
+        rows: tuple[tuple[str, bytes, list[bytes], str, bool], ...] = (
+            ("three blocks", label(1, 0), BLOCKS, "3 blocks of 1024 bytes\n", False),
+            ("no block", label(1, 0), [], "0 blocks\n", False),
+            ("one block", label(1, 0), BLOCKS[:1], "1 block of 1024 bytes\n", False),
+            ("several lengths", label(1, 0), [b"x", BLOCKS[0], b"yy"], "3 blocks of 1 to 1024 bytes, 1027 bytes in all\n", False),
+            ("a reel of another", b"hello", [b"world"], "1 block of 5 bytes\n", True),
+            ("a label with a word less", "".join(words[:-1]).encode() + bytes(64), [], "0 blocks\n", True),
+            ("a label with a word more", LABEL.encode() + b"more 1\n" + bytes(64), [], "0 blocks\n", True),
+            ("a label without a number", LABEL.replace("level 0", "level ").encode(), [], "0 blocks\n", True),
+            ("words in another order", "".join(reversed(words)).encode(), [], "0 blocks\n", True),
         )
-        for title, first, blocks, tells in rows:
+        for title, first, blocks, tells, is_foreign in rows:
             with self.p.listening("--capacity", str(1 << 16)) as (address, _):
                 write_volume(address, [first, *blocks, None])
+                tells += foreign(address, NO_LABEL) if is_foreign else ""
                 self.told(title, self.read(address), first.split(b"\0")[0].decode(), DONE, tells)
             self.same(f"{title}: the file", self.p.bytes_of("volume"), b"".join(blocks))
 
@@ -89,7 +91,7 @@ class Volumes(TellCase):
             ("cut off before the label", opened[:2], "", "", ENDED),
             ("cut off after the label", opened[:3], LABEL, none, ENDED),
             ("cut off after a block", opened, LABEL, one, ENDED),
-            ("refused after a block", (*opened, b"E5\nbroken\n"), LABEL, one, "read refused with E5"),
+            ("refused after a block", (*opened, b"E5\nbroken\n"), LABEL, one, refused_with(5, READ)[:-1]),
             ("no reply", (*opened, b"X\n"), LABEL, one, "no reply by the protocol"),
         ):
             with Said(*replies) as server:
@@ -111,7 +113,7 @@ class Files(TellCase):
     def test_nothing_is_read(self) -> None:
         self.is_kept("no server", NOWHERE, ABNORMAL, REFUSED)
         with self.p.listening() as (address, _):
-            self.is_kept("an empty reel", address, DONE, "not a volume of rdump")
+            self.is_kept("an empty reel", address, DONE, foreign(address, EMPTY))
         with Said(b"E6\nno reel\n", b"E6\nno reel\n") as server:
             self.is_kept("a refused open", server.address, ABNORMAL, "open refused with E6")
 
@@ -196,15 +198,6 @@ class Reasons(TellCase):
         came = (got.output, "Connection reset by peer (os error 104)" in got.told)
         self.same("a connection that is reset", came, (LOST, True), got)
 
-    def test_refusals(self) -> None:
-        where = "look in the server's log, and in the bin for a file of this reel's name"
-        for number, text in ((2, "No such file or directory"), (5, "Input/output error"), (16, "Device or resource busy")):
-            with Said(b"E%d\nno\n" % number) as server:
-                words = f"rdump: {server.address}: Refused {number}: {text} (os error {number})\n"
-                words += f"rdump: {server.address}: {where}\n" if number == 5 else ""
-                got = self.p.dump(server.address)
-            self.told(f"a refusal with {number}", got, f"volume 1 failed: Refused {number}\n{ASKED}", ABNORMAL, words)
-
     def test_no_replies(self) -> None:
         rows: tuple[tuple[bytes, ...], ...] = ((b"X\n",), (b"A0\n", b"A2\n"), (b"A0\n", b"A1\n", b"A1025\n" + bytes(1025)))
         for replies in rows:
@@ -222,6 +215,29 @@ class Reasons(TellCase):
         words = "rdump: payload: a block could not be read: the file became shorter, or its disk failed\n"
         output = "volume 1 failed: SourceFault\nretry?\n" * 2 + "dump abandoned\n"
         self.told("a payload that became shorter, twice", got, output, ABNORMAL, words * 2)
+
+    def test_reels_that_are_too_small(self) -> None:
+        """What a volume of one block takes is told: its label, its block and its mark."""
+        for capacity, block, takes in ((1000, 1024, 2068), (1040, 1024, 2068), (2067, 1024, 2068), (1040, 512, 1556)):
+            with self.p.listening("--capacity", str(capacity)) as (address, _):
+                got = self.p.dump(address, block=str(block))
+            words = (
+                f"rdump: {address}: ReelTooSmall: a volume of one block takes {takes} bytes (label 1032, block {block + 8}, mark 4), "
+                "and the reel has less room: the server's capacity or disk is too small; "
+                "start rmtd with a larger --capacity, or use a smaller --block\n"
+            )
+            self.told(f"a reel of {capacity} bytes", got, f"volume 1 failed: ReelTooSmall\n{ASKED}", ABNORMAL, words)
+        with self.p.listening("--capacity", "2068") as (address, _):
+            got = self.p.dump(address)
+        self.same("a reel of 2068 bytes", got.output.startswith("volume 1: 1 blocks from 0\n"), True, got)
+
+    def test_an_empty_payload(self) -> None:
+        """It is told, and the dump goes on."""
+        self.p.file("payload", b"")
+        for more in ((), ("--checkpoint", "kept")):
+            with Model(Reel("r1", 4096)) as model:
+                got = self.p.dump(model.address, *more)
+            self.told(f"an empty payload {more}", got, EMPTY_VOLUME, DONE, NO_BLOCK)
 
     def test_a_counted_reel(self) -> None:
         """What to do with it is told, once for each attempt that fails by it; a device with a space stands in quotes as a word."""
@@ -368,7 +384,7 @@ class Asked(TellCase):
         with Said(b"E2\nno\n", b"E2\nno\n") as server, Terminal() as terminal:
             got = self.p.dump(server.address, said="yes\nno\n", stdout=terminal.far, stderr=terminal.far)
             shown = terminal.shown().replace(CLEAR, "").replace("\r\n", "\n")
-        reason = f"rdump: {server.address}: Refused 2: No such file or directory (os error 2)\n"
+        reason = f"rdump: {server.address}: {refused(2, OPEN)}"
         failed = f"{reason}volume 1 failed: Refused 2\nretry?\n{ANSWERS}\n"
         came = (got.status, shown.endswith(failed * 2 + "dump abandoned\n"))
         self.same("what a terminal tells", came, (ABNORMAL, True), shown, failed)
@@ -403,14 +419,14 @@ class Based(TellCase):
             with Model(Reel("r1", 4096)) as model, Terminal() as terminal:
                 got = self.p.dump(model.address, level=level, stderr=terminal.far)
                 shown = terminal.shown()
-            came = (got.output, got.status, shown.startswith(f"{since}\r\n"))
+            came = (got.output, got.status, shown.replace("\r\n", "\n").startswith(f"{NO_BLOCK}{since}\n"))
             self.same(f"a level {level}", came, (EMPTY_VOLUME, DONE, True), got, shown)
-            self.told(f"a level {level}, and no terminal", self.dump(level=level), EMPTY_VOLUME, DONE, "")
+            self.told(f"a level {level}, and no terminal", self.dump(level=level), EMPTY_VOLUME, DONE, NO_BLOCK)
 
     def test_it_is_after_the_date_of_the_dump(self) -> None:
         for date, tells in ((DAY - 1, self.late), (DAY, ""), (DAY + 1, ""), (0, self.late)):
             for more in ((), ("--checkpoint", "kept")):
-                self.told(f"a dump of {date} {more}", self.dump(*more, level="1", date=str(date)), EMPTY_VOLUME, DONE, tells)
+                self.told(f"a dump of {date} {more}", self.dump(*more, level="1", date=str(date)), EMPTY_VOLUME, DONE, NO_BLOCK + tells)
 
     def test_a_dump_that_goes_on(self) -> None:
         """Its dates are those of the file."""
@@ -418,14 +434,14 @@ class Based(TellCase):
             kept = f"rdump 1\ndevice {DEVICE}\nfs /usr\nlevel 1\ndate {date}\nsince {DAY}\nblock 1024\nblocks 0\n"
             self.p.file("kept", kept.encode())
             got = self.dump("--checkpoint", "kept", level="1", date="5")
-            self.told(f"a dump of {date} that goes on", got, EMPTY_VOLUME, DONE, f"going on: 0 volumes, 0 blocks of 0 counted\n{tells}")
+            self.told(f"a dump of {date} that goes on", got, EMPTY_VOLUME, DONE, f"going on: 0 volumes, 0 blocks of 0 counted\n{NO_BLOCK}{tells}")
 
     def test_dumpdates_cannot_be_written(self) -> None:
         self.p.folder.joinpath("dumpdates.new").mkdir()
-        for more, output, status, lines in ((("--update",), "dumpdates not updated\n", ABNORMAL, 2), ((), "", DONE, 0)):
+        for more, output, status, lines in ((("--update",), "dumpdates not updated\n", ABNORMAL, 3), ((), "", DONE, 1)):
             got = self.dump(*more)
             self.same(f"dumpdates can't be written {more}", (got.output, got.status), (EMPTY_VOLUME + output, status), got.told)
-            warned = re.match(r"rdump: dumpdates: .+: the dump can't be entered\n", got.told) is not None
+            warned = re.search(r"rdump: dumpdates: .+: the dump can't be entered\n", got.told) is not None
             self.same(f"dumpdates can't be written {more}: a warning", (warned, len(got.told.splitlines())), (bool(more), lines), got.told)
 
 

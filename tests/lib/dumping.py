@@ -161,6 +161,8 @@ BLOCKS = [PAYLOAD[at : at + 1024] for at in range(0, 3072, 1024)]
 ONE_VOLUME = "volume 1: 3 blocks from 0\ndump complete: 1 volumes, 3 blocks\n"
 TWO_VOLUMES = "volume 1: 2 blocks from 0\nvolume 2: 1 blocks from 2\ndump complete: 2 volumes, 3 blocks\n"
 EMPTY_VOLUME = "volume 1: 0 blocks from 0\ndump complete: 1 volumes, 0 blocks\n"
+# What is told of a payload without a byte.
+NO_BLOCK = "rdump: payload: it is empty: the dump has no block\n"
 LOST = "volume 1 failed: ConnectionEnded\nretry?\ndump abandoned\n"
 
 

@@ -16,6 +16,11 @@ def built(name: str) -> str:
     return os.path.abspath(os.environ.get(name.upper()) or CRATES / name / "out" / name)
 
 
+def is_unproved(name: str) -> bool:
+    """Whether the program `name` was compiled without its proofs, by `make try` or `make quick`."""
+    return Path(built(name)).with_suffix(".sources").is_file()
+
+
 def words_of_module(name: str) -> tuple[str, ...]:
     """The command that runs a module of tests/, from any folder."""
     start = f"import runpy, sys; sys.path.insert(0, {str(TOP)!r}); sys.argv[0] = {name!r}; runpy.run_module({name!r}, run_name='__main__')"

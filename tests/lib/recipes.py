@@ -134,6 +134,9 @@ def recipe_of(title: str, first: int, lines: list[str]) -> Recipe:
     for kind, at, block in blocks(lines, first):
         if kind == "sh":
             found.append((Command(at, "\n".join(block), None),))
+        elif kind == "output":
+            # What the commands of the block before print.
+            found[-1] = (found[-1][0]._replace(wanted="".join(f"{it}\n" for it in block)),)
         elif kind == "console":
             found.append(tuple(console(at, block)))
     return Recipe(title, after[1] if after else None, tuple(re.findall("`([^`]+)`", needs[1])) if needs else (), tuple(found))

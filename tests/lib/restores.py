@@ -13,6 +13,7 @@ from tests.lib.drives import data_of, drive_words, folders, held
 from tests.lib.dumping import DAY, DumpCase, Programs
 from tests.lib.ended import Ended
 from tests.lib.played_servers import Model, Reel
+from tests.lib.refusals import OPEN, refused_with
 from tests.lib.waiting import GUARD_SECONDS
 from tests.lib.wire import DEVICE
 from tests.models.rmtd import Entry, images
@@ -25,9 +26,18 @@ PADDED = PAYLOAD + bytes(300)
 
 # The first block of each volume, and the one after its last.
 VOLUMES = ((0, 2), (2, 5), (5, 6))
-FOREIGN = "not a volume of rdump\n"
+
+# What a reel begins with that is no volume.
+NO_LABEL, EMPTY, MARK = "it begins with a record that is no label", "it is empty", "it begins with a mark"
+EMPTY_OR_MARK = "it is empty, or begins with a mark"
+
 BINNED = "the reel is in the bin\n"
 UNKNOWN = "the end of the dump is not known: without --length the last volumes may be missing\n"
+
+
+def foreign(address: str, why: str) -> str:
+    """What is told of a reel that is no volume."""
+    return f"rdump: {address}: the first reel of {DEVICE} is not a volume of rdump: {why}\n"
 
 
 class Dump(NamedTuple):
@@ -128,7 +138,7 @@ class Site(NamedTuple):
 
     def busy(self) -> str:
         """What is told if another has the drive."""
-        return f"rdump: {self.address}: open refused with E16\n"
+        return f"rdump: {self.address}: {refused_with(16, OPEN)}"
 
     def reels(self, name: str, stack: dict[str, bytes], taken: dict[str, bytes]) -> None:
         """The stack and the bin have these reels."""
