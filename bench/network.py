@@ -3,9 +3,10 @@
     python3 -m bench.network [RMTD [RDUMP]] [--mib N]
 
 It prints ratios of the least of several times, each with the start of the clients in it: `rdump dump` and `rdump read` with a server that has a reel
-in memory, and with one that has it in a folder; and 32 of them at once, each with a drive of its own. Then dumps over TCP and over a Unix socket,
-without and with limits of time at both ends (--idle, --timeout), each beside the same floor, which is over TCP. Then what memory the server holds for
-32 clients, and what a client holds. A time into a folder is up to when the bytes are synced. The files stand in the temporary folder.
+in memory, and with one that has it in a folder; and 32 of them at once, each with a drive of its own. Where there is a folder, `rdump fetch` stands
+beside the floor's read. Then dumps over TCP and over a Unix socket, without and with limits of time at both ends (--idle, --timeout), each beside the
+same floor, which is over TCP. Then what memory the server holds for 32 clients, and what a client holds. A time into a folder is up to when the bytes
+are synced. The files stand in the temporary folder.
 
 The floor is `netfloor.c`: a client and a server of one block a turn with few calls of the system, and both trust what comes. It is built where
 there is a C compiler.
@@ -28,7 +29,7 @@ from typing import Callable, ContextManager, Iterator, NamedTuple, Sequence, Uni
 
 from bench.dump import connected, listening, most_memory, timed, write_volume
 from bench.told import ratio, ratio_of_times
-from bench.wire import BLOCKS, GREATEST_RECORD, write
+from bench.wire import BLOCKS, GREATEST_RECORD, LABEL, write
 from tests.lib.given import given
 from tests.lib.places import CRATES
 
@@ -39,7 +40,6 @@ MIB = 1 << 20
 AT_ONCE = 32
 # What is wanted at most, beside the floor, of a folder.
 WANTED = 1.25
-LABEL = b"label\n" + bytes(1018)
 
 Words = Sequence[str]
 
@@ -120,6 +120,9 @@ class Programs:
     def reads(self, address: str, number: int, out: Path) -> Words:
         return (self.rdump, "read", "--to", address, "--device", f"/dev/st{number}", "--out", str(out))
 
+    def fetches(self, address: str, number: int, into: Path) -> Words:
+        return (self.rdump, "fetch", "--to", address, "--device", f"/dev/st{number}", "--into", str(into))
+
     def fill_memory(self, address: str, source: Path, block: int) -> None:
         """Writes a volume, and leaves the reel on its drive, which a dump does not."""
         write_volume(address, source, block)
@@ -186,6 +189,18 @@ class Load(NamedTuple):
             clients = [ends.writes(address, number, self.source, self.block) for number, address in enumerate(addresses)]
             return timed(lambda: run_all(clients))
 
+    def fetched(self, programs: Programs, into: Path) -> float:
+        """The seconds of copying volumes into new folders, after which the reels are in the bin."""
+        self.reels.fill(self.source, self.block)
+        folders = [into / str(number) for number in range(self.reels.count)]
+        for it in folders:
+            it.mkdir(parents=True)
+        with programs.serving(self.reels) as addresses:
+            clients = [programs.fetches(address, number, it) for number, (address, it) in enumerate(zip(addresses, folders))]
+            seconds = timed(lambda: run_all(clients))
+        shutil.rmtree(into)
+        return seconds
+
     def read(self, clients: list[Words], outs: list[Path]) -> float:
         """The seconds of reading volumes into new files, which get their bytes, and may get their labels."""
         for it in outs:
@@ -222,9 +237,13 @@ def measure(title: str, load: Load, programs: Programs, floor: Floor, folder: Pa
     outs = [folder / f"out{number}" for number in range(load.reels.count)]
     with ExitStack() as servers:
         by_one = [servers.enter_context(load.reading(ends, outs)) for ends in both]
-        tell(f"read back from {title}, blocks of {load.block:,}", in_turns(by_one), size, wanted)
+        reads = in_turns(by_one)
+        tell(f"read back from {title}, blocks of {load.block:,}", reads, size, wanted)
     for it in outs:
         it.unlink()
+    if load.reels.folder:
+        fetches = in_turns([partial(load.fetched, programs, folder / "into")])
+        tell(f"fetched from {title}, blocks of {load.block:,}", [*fetches, reads[1]], size, None)
 
 
 def tell(title: str, times: list[float], size: int, wanted: float | None) -> None:

@@ -17,13 +17,12 @@ from pathlib import Path
 
 from bench.stdio import Words, least_times
 from bench.told import ratio_of_times
-from bench.wire import BLOCKS
+from bench.wire import BLOCKS, LABEL
 
 BUILT = Path(__file__).resolve().parent.parent / "crates/rdump/out/rdump"
 
 REPEATS = 5
 MIB = 1 << 20
-LABEL = b"name /usr\nlevel 0\ndate 951782400\nsince 0\nvolume 1\nfirst 0\n".ljust(1024, b"\0")
 
 
 def write_reel(path: Path, size: int, total: int) -> int:

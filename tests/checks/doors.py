@@ -25,7 +25,8 @@ from typing import Any, Callable, Iterator, NamedTuple
 
 from tests.lib.case import Case
 from tests.lib.connections import TCP, UNIX, text_of
-from tests.lib.dumping import PAYLOAD, Programs
+from tests.lib.drives import files_of
+from tests.lib.dumping import PAYLOAD, Programs, needs
 from tests.lib.each_command import EachCommandCase, commands, unreached
 from tests.lib.ended import DONE, FAILED, Ended
 from tests.lib.given import given
@@ -628,26 +629,29 @@ class Work(NamedTuple):
 
     ran: list[Ended[str]]
     bin: dict[str, bytes]
-    out: bytes
+    copies: dict[str, bytes]
 
 
 BLOCK = 65_536
 SIZE = 10 * BLOCK - 1000
 ROOM = 1036 + 4 * (BLOCK + 8)
+VOLUMES = volumes_of(-(-SIZE // BLOCK), BLOCK, ROOM)
 
 
 class BothKinds(DoorCase):
-    """A dump, a list, an operation and a restore over a Unix socket print what they print over TCP, and leave the same reels and bytes."""
+    """A dump, a list, an operation, a read and a fetch over a Unix socket print what they print over TCP, and leave the same reels and copies."""
 
     def worked(self, at: str, payload: bytes) -> Work:
-        """A dump of several volumes, an operation, a list and a restore over one kind of socket. Addresses are left out of what is printed."""
+        """A dump of several volumes, a list, an operation, a read and a fetch over one kind of socket. Addresses are left out of what is printed."""
         with serving(capacity=ROOM, at=at) as server:
-            for number in range(4):
+            for number in range(len(VOLUMES)):
                 server.reel(f"r{number}")
             address = text_of(server.address)
             self.p.file("payload", payload)
-            for name in ("dumpdates", "sums", "out"):
+            for name in ("dumpdates", "sums", "volume"):
                 self.p.folder.joinpath(name).unlink(missing_ok=True)
+            into = self.p.folder / at.partition(":")[0]
+            into.mkdir()
             drive = ("--to", address, "--device", DEVICE)
             dump = self.p.dump_words(address, "--update", "--protect", "--sums", "sums", block=str(BLOCK))
             ran = [tried([self.p.rdump, *dump], cwd=self.p.folder)]
@@ -658,25 +662,25 @@ class BothKinds(DoorCase):
                 ("ls", *drive, "--sums", "sums"),
                 ("mt", *drive, "fsf", "1"),
                 ("read", *drive, "--out", "volume"),
-                ("read", *drive, "--out", "out", "--all", "--place", "--length", str(len(payload)), "--sums", "sums"),
+                ("fetch", *drive, "--into", str(into), "--sums", "sums"),
             ):
                 ran.append(tried([self.p.rdump, *words], cwd=self.p.folder))
             plain = [Ended(it.output.replace(address, "ADDRESS"), it.told.replace(address, "ADDRESS"), it.status) for it in ran]
-            return Work(plain, held, self.p.folder.joinpath("out").read_bytes())
+            return Work(plain, held, files_of(into)[0])
 
     def test_both_kinds(self) -> None:
         payload = random.Random(59).randbytes(SIZE)
-        volumes = volumes_of(-(-SIZE // BLOCK), BLOCK, ROOM)
         done = {at: self.worked(at, payload) for at in (TCP, UNIX)}
         for at, it in done.items():
-            dump, listed, operation, _, restored = it.ran
-            self.same(f"{at}: the dump", (dump.output, dump.status), (printed(volumes), DONE), dump)
-            restore = f"to restore: {len(payload) // BLOCK + 1} blocks, {SIZE} bytes: rdump read --to ADDRESS --device {DEVICE} --out FILE"
-            self.holds(f"{at}: what a restore needs", f"{restore} --all --place --length {SIZE}\n" in dump.told, dump)
-            self.same(f"{at}: the reels", [*it.bin.values()], reels_of(payload, BLOCK, volumes), {name: len(data) for name, data in it.bin.items()})
+            dump, listed, operation, _, fetched = it.ran
+            self.same(f"{at}: the dump", (dump.output, dump.status), (printed(VOLUMES), DONE), dump)
+            self.holds(f"{at}: what a restore needs", needs("ADDRESS", SIZE, SIZE // BLOCK + 1) in dump.told, dump)
+            reels = reels_of(payload, BLOCK, VOLUMES)
+            self.same(f"{at}: the reels", [*it.bin.values()], reels, {name: len(data) for name, data in it.bin.items()})
             self.holds(f"{at}: the list", listed.status == DONE and listed.output.endswith(": whole, sum equal\n"), listed)
             self.same(f"{at}: the operation", operation, Ended("A1\n", "", DONE))
-            self.same(f"{at}: the restore", (restored.status, it.out), (DONE, payload), restored)
+            came = fetched.status, fetched.output.count(": whole, sum equal\n"), [data for _, data in sorted(it.copies.items())]
+            self.same(f"{at}: the fetch", came, (DONE, len(reels), reels), fetched)
         self.same("both kinds: the same is printed", done[UNIX].ran, done[TCP].ran)
         self.same("both kinds: the same reels", done[UNIX].bin, done[TCP].bin)
 

@@ -34,6 +34,7 @@ from tests.lib.dumping import (
     DumpCase,
     label,
     lines_of,
+    needs,
     requests_of,
     write_volume,
 )
@@ -253,12 +254,11 @@ def shown_pattern(address: str, on_both: bool) -> str:
     lines = [CLEAR + it if on_both else CLEAR for it in TWO_VOLUMES.replace("\n", "\r\n").splitlines(keepends=True)]
     later = r"(\rvolume [12], block [123] of 3, \d+ [KM]iB/s\x1b\[K)*"
     since = "since the epoch: every block counts as new\r\n"
-    restore = f"rdump read --to {address} --device {DEVICE} --out FILE --all --place --length {len(PAYLOAD)}"
     return (
         re.escape(f"{since}\rvolume 1, block 1 of 3, 0 KiB/s\x1b[K")
         + later
         + later.join(re.escape(it) for it in lines)
-        + re.escape(f"to restore: 3 blocks, {len(PAYLOAD)} bytes: {restore}\r\n")
+        + re.escape(needs(address, len(PAYLOAD), 3).replace("\n", "\r\n"))
     )
 
 
@@ -494,7 +494,7 @@ class Startup(DumpCase):
 # The words that the help of each program names.
 HELPS = {
     "rmtd": ("Usage: rmtd [OPTIONS] [DEVICE=DIR]...", "--stdio", "--listen <ADDRESS>", "--capacity <BYTES>", "--connections <N>", "--bin <DIR>"),
-    "rdump": ("Usage: rdump <COMMAND>", "dump", "read", "ls", "mt", "dates"),
+    "rdump": ("Usage: rdump <COMMAND>", "dump", "read", "fetch", "ls", "mt", "dates"),
 }
 
 

@@ -15,16 +15,17 @@ import stat
 import subprocess
 import threading
 from functools import partial
-from pathlib import Path
 from typing import Callable, Iterator, Mapping, NamedTuple
 
 from tests.lib.checkpoints import BOTH, ONE, RUN
 from tests.lib.connections import NOWHERE
-from tests.lib.dumping import DAY, ENTRY, LOST, NO_BLOCK, ONE_VOLUME, PAYLOAD, RESTORE, DumpCase
+from tests.lib.drives import files_of
+from tests.lib.dumping import DAY, ENTRY, LOST, NO_BLOCK, ONE_VOLUME, PAYLOAD, RESTORE, DumpCase, needs
 from tests.lib.ended import ABNORMAL, DONE, FAILED, Ended
 from tests.lib.played_servers import Model, Reel
+from tests.lib.restores import fetch_words
+from tests.lib.volumes import reels_of
 from tests.lib.waiting import GUARD_SECONDS
-from tests.lib.wire import DEVICE
 from tests.models.checkpoint import text_of
 from tests.models.world import Volume
 
@@ -370,8 +371,7 @@ class Kinds(FileCase):
             self.told(f"ls --sums {path}", self.p.run("ls", "--sums", path, "reel"), "", FAILED, tells)
             got = self.p.run("ls", "--dumpdates", path, "reel")
             self.told(f"ls --dumpdates {path}", got, "reel: 0 bytes: empty\n", FAILED, tells)
-            got = self.p.run("read", "--to", NOWHERE, "--device", DEVICE, "--sums", path, "--out", "out")
-            self.told(f"read --sums {path}", got, "", FAILED, tells)
+            self.told(f"fetch --sums {path}", self.p.run(*fetch_words(NOWHERE, "--sums", path, into=".")), "", FAILED, tells)
 
     def test_files_of_other_commands_that_are_read(self) -> None:
         """The null device is empty, and a pipe is read to its end."""
@@ -500,16 +500,6 @@ class LaterEntry(FileCase):
         self.same("an entry of a later date than the checkpoint's", got.told, tells)
 
 
-def needs(address: str, size: int, blocks: int) -> str:
-    """The line of a dump of so many bytes and blocks."""
-    words = f"rdump read --to {address} --device {DEVICE} --out FILE --all --place --length {size}"
-    return f"to restore: {blocks} blocks, {size} bytes: {words}\n"
-
-
-def names_in(folder: Path) -> list[str]:
-    return sorted(it.name for it in folder.iterdir())
-
-
 class Restored(FileCase):
     """What a dump says that a restore needs, word for word; and a shell does it."""
 
@@ -521,9 +511,10 @@ class Restored(FileCase):
             empty = "" if size else NO_BLOCK
             self.same(f"{size} bytes: what a restore needs", got.told, empty + needs(model.address, size, -(-size // block)))
 
-    def test_a_shell_restores_it(self) -> None:
+    def test_a_shell_fetches_it(self) -> None:
         """From a device whose name has characters that a shell takes for others."""
-        for name in ("bin", "st0"):
+        reels = reels_of(PAYLOAD, 1024, [(0, 2), (2, 1)])
+        for name in ("bin", "st0", "FOLDER"):
             self.p.folder.joinpath(name).mkdir()
         stack, taken = self.p.folder / "st0", self.p.folder / "bin"
         odd = "/dev/it's a tape; $(false)"
@@ -536,12 +527,11 @@ class Restored(FileCase):
                 self.same(f"an odd device {more}: the words", shlex.split(line)[4:6], ["--device", odd], got)
                 for it in taken.iterdir():
                     it.rename(stack / it.name)
-                status = self.shell(line)
-                self.same(f"an odd device {more}: a shell restores it", (status, self.p.bytes_of("FILE")), (DONE, PAYLOAD))
-                self.same(f"an odd device {more}: the reels are in the bin", (names_in(stack), names_in(taken)), ([], ["r1", "r2"]))
-                for it in taken.iterdir():
+                status, (copies, left, bin) = self.shell(line), files_of(self.p.folder / "FOLDER", stack, taken)
+                self.same(f"an odd device {more}: a shell fetches it", (status, [*dict(sorted(copies.items())).values()]), (DONE, reels))
+                self.same(f"an odd device {more}: the reels are in the bin", (left, bin), ({}, dict(zip(("r1", "r2"), reels))))
+                for it in (*taken.iterdir(), *self.p.folder.joinpath("FOLDER").iterdir()):
                     it.unlink()
-                self.p.folder.joinpath("FILE").unlink(missing_ok=True)
 
     def shell(self, line: str) -> int:
         """The status of a shell that runs this line, in which `rdump` is the program."""

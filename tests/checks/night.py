@@ -34,6 +34,7 @@ from tests.lib.dumping import DAY, IN_LITTLE_ROOM, PAYLOAD, label
 from tests.lib.ended import ABNORMAL, DONE, Ended
 from tests.lib.given import given
 from tests.lib.inside import is_inside, run_inside
+from tests.lib.joined import joined
 from tests.lib.places import TOP, built
 from tests.lib.played_servers import Said
 from tests.lib.processes import state
@@ -952,14 +953,9 @@ class Nights(Case):
         back = Path("/mnt/back")
         back.mkdir()
         for level in "01":
-            empty(Path("/srv/tape/st1"))
-            for it in re.findall(rf"^(\S+): /usr level {level} date {dates[level]} ", got.output, re.M):
-                shutil.copy(it, "/srv/tape/st1/")
-                shutil.chown(f"/srv/tape/st1/{Path(it).name}", "rmtd", "rmtd")
-            read = rdump("read", "--to", f"unix:{LISTENER}", "--device", "/dev/st1", "--out", f"/mnt/level.{level}", "--all", "--place")
-            self.same(f"level {level} is read", read.status, DONE, read)
-            subprocess.run(("tar", "-xf", f"/mnt/level.{level}", "-C", str(back)), check=True, stderr=subprocess.DEVNULL)
-            empty(BIN)
+            payload = joined(*re.findall(rf"^(\S+): /usr level {level} date {dates[level]} ", got.output, re.M))
+            self.same(f"level {level} is joined", (payload.told, payload.status), ("", DONE))
+            subprocess.run(("tar", "-x", "-C", str(back), "-f", "-"), input=payload.output, check=True, stderr=subprocess.DEVNULL)
         for name, data in wanted.items():
             file = back / "share/night" / name
             self.same(f"{name} is back", file.read_bytes() if file.exists() else None, data)

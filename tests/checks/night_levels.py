@@ -26,6 +26,7 @@ from tests.lib.case import random_seed
 from tests.lib.connections import NOWHERE, text_of
 from tests.lib.ended import DONE, Ended
 from tests.lib.given import given
+from tests.lib.joined import joined
 from tests.lib.places import TOP, built
 from tests.lib.servers import Server, serving
 from tests.lib.unattended import NIGHT, set_clock
@@ -91,7 +92,7 @@ class TreeCase(NightCase):
         super().setUp()
         (self.tree / "file").unlink()
         self.reels = 0
-        self.server: Server = self.enterContext(serving(drives=2))
+        self.server: Server = self.enterContext(serving())
 
     def at(self, day: int) -> None:
         """Moves the clock to a night."""
@@ -120,16 +121,14 @@ class TreeCase(NightCase):
         return got
 
     def payload(self, level: int) -> Path:
-        """The payload of the last dump of a level that is entered, as it is read from its reel."""
+        """The payload of the last dump of a level that is entered, as its reel has it."""
         entries = run(self.folder, built("rdump"), "ls", str(self.server.bin), "--dumpdates", str(self.place / "dumpdates")).output
         date = re.findall(rf"(?m)^/usr level {level} date (\d+): volumes", entries)[0]
         reel = re.findall(rf"(?m)^(.*): /usr level {level} date {date} .*: whole$", entries)[-1]
-        shutil.copy(reel, self.server.stacks[1] / f"copy.{level}")
+        got = joined(reel)
+        self.same(f"level {level} is joined", (got.told, got.status), ("", DONE))
         out = self.folder / f"back.{level}"
-        words = ("--to", text_of(self.server.address), "--device", device(1), "--out", str(out), "--place")
-        read = run(self.folder, built("rdump"), "read", *words)
-        (self.server.stacks[1] / f"copy.{level}").unlink()
-        self.same(f"level {level} is read", read.status, DONE, read)
+        out.write_bytes(got.output)
         return out
 
     def restored(self, title: str, *levels: int) -> None:

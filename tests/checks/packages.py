@@ -77,6 +77,7 @@ FILES = {
     """,
     "rdump": """\
         755 usr/bin/rsim
+        755 usr/lib/rdump/join-reels
         755 usr/lib/rdump/night
         755 usr/lib/rdump/unattended
         755 usr/sbin/rdump
@@ -95,7 +96,7 @@ FIELDS = {
         "Depends": r"libc6 \(>= [\d.]+\)(, libgcc-s1( \(>= [\d.]+\))?)?"
         + "".join(rf", systemd \| systemd-standalone-{it} \| systemd-{it}" for it in ("sysusers", "tmpfiles")),
     },
-    "rdump": {"Depends": r"libc6 \(>= [\d.]+\)(, libgcc-s1( \(>= [\d.]+\))?)?"},
+    "rdump": {"Depends": r"libc6 \(>= [\d.]+\)(, libgcc-s1( \(>= [\d.]+\))?)?, python3"},
 }
 FIELDS_OF_BOTH = {
     "Version": r"\d+\.\d+\.\d+~git\d{14}\.[0-9a-f]{8}(\+changed)?(\+unproved)?",
@@ -646,7 +647,7 @@ DUMP_ALONE = Found("dump's", "dump's")
 # Prints what dpkg finds wrong with packages.
 AUDIT = ("sh", "-c", 'dpkg --audit "$@"; dpkg --verify "$@"', "audit")
 # The packages that dpkg knows where there are few: the one that has /sbin, and those that ours need.
-KNOWN = tuple(f"Package: {it}" for it in ("base-files", "libc6", "libgcc-s1", "systemd"))
+KNOWN = tuple(f"Package: {it}" for it in ("base-files", "libc6", "libgcc-s1", "python3", "systemd"))
 
 FOLDERS = ("/var/lib/rmtd", "/var/lib/rmtd/st0", "/var/lib/rmtd/st1", "/var/lib/rmtd/bin")
 MADE = ["root root 755 /var/lib/rmtd", *(f"rmtd rmtd 700 {it}" for it in FOLDERS[1:]), "rmtd rmtd 600 /var/lib/rmtd/log"]

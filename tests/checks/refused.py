@@ -17,11 +17,13 @@ from pathlib import Path
 from typing import Callable, Generic, NamedTuple, TypeVar
 
 from tests.lib.connections import TCP, UNIX, Address, address_in, connected
-from tests.lib.drives import Held, drive_words, folders, held
+from tests.lib.drives import Held, drive_words, files_of, folders, held
 from tests.lib.ended import ABNORMAL, DONE, FAILED
+from tests.lib.fetches import copies, copy_name, fetched, part_name
 from tests.lib.given import given
 from tests.lib.places import is_unproved
 from tests.lib.processes import guarded
+from tests.lib.restores import fetch_words
 from tests.lib.servers import at_drive
 from tests.lib.shimmed import (
     ABANDONED,
@@ -521,12 +523,13 @@ class OverFiles(RefusedCase):
 VOLUME = Payload(3, (3,))
 REEL = VOLUME.reels()[0]
 LABEL = REEL[4:1028].rstrip(b"\0")
+LINE = fetched(REEL).encode()
 
 
 # What a command leaves: the reel, and the file that is written, if any.
 Volume = tuple[bytes, bytes | None]
-# What a command over a stack leaves: the reels of the stack and of the bin, and that file.
-Stack = tuple[dict[str, bytes], bytes | None]
+# What a fetch leaves: the reels of the stack and of the bin, and the files of its folder.
+Fetched = tuple[dict[str, bytes], ...]
 
 
 def over_a_volume(p: ShimmedPrograms, words: tuple[str, ...], rules: str) -> Ran[Volume]:
@@ -550,24 +553,27 @@ def operation_is_right(got: Ran[Volume], more: bool) -> bool:
     return got.status == ABNORMAL and got.told != b"" and got.output == b"" and got.left[0] in (REEL, images([None]))
 
 
-def over_a_stack(p: ShimmedPrograms, rules: str) -> Ran[Stack]:
-    """The volumes of a stack of one reel are read. What is left are the reels of the stack and of the bin, and the file that is written, if any."""
+def over_a_stack(p: ShimmedPrograms, rules: str) -> Ran[Fetched]:
+    """A stack of one reel is fetched. What is left are the reels of the stack and of the bin, and the files of the folder."""
     with folders(r1=REEL) as folder, at_drive(folder, "--capacity", str(CAPACITY)) as address:
-        out = folder / "out"
-        got = p.run((p.rdump, "read", "--all", "--out", str(out), "--to", address, "--device", DEVICE), rules)
-        return got.leaving(({**held(folder)[0], **held(folder)[1]}, out.read_bytes() if out.exists() else None))
+        into = folder / "into"
+        into.mkdir()
+        got = p.run((p.rdump, *fetch_words(address, into=str(into))), rules)
+        return got.leaving(files_of(folder / "st0", folder / "bin", into))
 
 
-def stack_is_right(got: Ran[Stack], more: bool) -> bool:
-    """It failed, which is told, or named after the volume. What was read is a beginning of that, and the reel is as it was, here or there."""
-    reels, out = got.left
-    is_told = got.output == LABEL + NAMED or (got.told != b"" and LABEL.startswith(got.output))
-    return got.status == ABNORMAL and is_told and VOLUME.data().startswith(out or b"") and reels == {"r1": REEL}
+def fetch_is_right(got: Ran[Fetched], more: bool) -> bool:
+    """It failed, which is told. The reel is as it was, and is gone only if it has its copy. A part is a beginning of that."""
+    stack, taken, files = got.left
+    copy, part = files.get(copy_name(REEL)), files.get(part_name(REEL), b"")
+    is_kept = copy == REEL if taken else copy in (None, REEL)
+    is_told = got.told != b"" and LINE.startswith(got.output)
+    return got.status == ABNORMAL and is_told and {**stack, **taken} == {"r1": REEL} and is_kept and REEL.startswith(part)
 
 
 class Commands(RefusedCase):
-    """A volume that is read back, a stack of them, and operations, one of which writes. Memory that is refused for the talk with the server may end
-    them as an answer that does not come does."""
+    """A volume that is read back, a stack that is fetched, and operations, one of which writes. Memory that is refused for the talk with the server
+    may end them as an answer that does not come does."""
 
     def commands(self, title: str, after: Callable[[Ran[Volume], bool], bool], *words: str) -> None:
         """A command at a reel with a volume."""
@@ -586,15 +592,17 @@ class Commands(RefusedCase):
     def test_marks(self) -> None:
         self.commands("marks", operation_is_right, "mt", "weof", "1")
 
-    def test_stack_that_is_read(self) -> None:
-        """Memory that is refused between two volumes is named, and the status says that something is missing."""
+    def test_stack_that_is_fetched(self) -> None:
+        """Memory that is refused before the open that finds no more reels is told too, once the reel is fetched."""
 
-        def before(got: Ran[Stack]) -> bool:
-            return is_named(got) and got.left == ({"r1": REEL}, None) or stack_is_right(got, False)
+        def before(got: Ran[Fetched]) -> bool:
+            return is_named(got) and got.left == ({"r1": REEL}, {}, {}) or fetch_is_right(got, False)
 
-        came = self.swept(Sweep("a stack that is read", 95, "connect", lambda rules: over_a_stack(self.p, rules), before, stack_is_right))
-        between = [it for it in came if (it.status, it.output) == (ABNORMAL, LABEL + NAMED)]
-        self.holds("a stack that is read: memory is refused between two volumes", between, [it.shown() for it in came[-4:]])
+        title = "a stack that is fetched"
+        self.well(title, over_a_stack(self.p, ""), (DONE, LINE, ({}, {"r1": REEL}, copies(REEL))))
+        came = self.swept(Sweep(title, 95, "connect", lambda rules: over_a_stack(self.p, rules), before, fetch_is_right))
+        between = [it for it in came if (it.status, it.output) == (ABNORMAL, LINE)]
+        self.holds(f"{title}: memory is refused between two reels", between, [it.shown() for it in came[-4:]])
 
 
 # The simulator.

@@ -59,9 +59,15 @@ class Dump(NamedTuple):
         found = {}
         for volume, first in enumerate(range(0, self.blocks, MOST), 1):
             label = Label(self.name, self.level, seconds_of(self.when), seconds_of(self.since) if self.since else 0, volume, first)
-            blocks = [f"{self.when} {at}".encode().ljust(BLOCK, b".") for at in range(first, min(first + MOST, self.blocks))]
+            blocks = [self.block(at) for at in range(first, min(first + MOST, self.blocks))]
             found[f"{folder_of(self.when)}-{volume}"] = images([label.record(), *blocks, None])
         return found
+
+    def block(self, number: int) -> bytes:
+        return f"{self.when} {number}".encode().ljust(BLOCK, b".")
+
+    def payload(self) -> bytes:
+        return b"".join(map(self.block, range(self.blocks)))
 
     def entry(self) -> str:
         """Its line of a dumpdates file."""
@@ -461,11 +467,13 @@ class WhatCame(ShelfCase):
 
 
 class ReelsOfOneDump(ShelfCase):
-    """How docs/OPERATING.md picks the reels of one dump from a shelf of many."""
+    """How docs/OPERATING.md picks the reels of one dump from a shelf of many, and joins them."""
 
     def test_reels(self) -> None:
         """Those of another name, level or date stay, and those that are not whole, whatever the bytes of the names are."""
-        (command,) = re.findall(r"(?m)^rdump ls /srv/tape/shelf/\* \|.*> reels$", TOP.joinpath("docs/OPERATING.md").read_text())
+        text = TOP.joinpath("docs/OPERATING.md").read_text()
+        (picks,) = re.findall(r"(?m)^rdump ls /srv/tape/shelf/\* \|.*> reels$", text)
+        (joins,) = re.findall(r"(?m)^xargs .* join-reels < reels", text)
         names = ("/usr", "/usr.*", "[/usr]", "ann:/usr", "a|/usr\\\\", "/", "//usr")
         dumps = [Dump(when, 5, level, FIRST, name) for name in names for level in (0, 1) for when in (OLD, NEW)]
         wanted: dict[Dump, list[str]] = {}
@@ -479,11 +487,12 @@ class ReelsOfOneDump(ShelfCase):
             (day / f"{number} cut").write_bytes(data[:-4])
         for dump in dumps:
             got = subprocess.run(
-                ("sh", "-c", command.replace("/srv/tape/shelf", str(self.shelf))),
+                ("sh", "-c", f"{picks}\n{joins}".replace("/srv/tape/shelf", str(self.shelf))),
                 cwd=self.folder,
-                env={**os.environ, "PATH": f"{self.programs}:{os.environ['PATH']}", "dump": dump.number().rstrip()},
+                env={**os.environ, "PATH": f"{self.programs}:{TOP / 'etc'}:{os.environ['PATH']}", "dump": dump.number().rstrip()},
                 capture_output=True,
                 timeout=GUARD_SECONDS,
                 check=False,
             )
             self.same(f"{dump.number()}: its reels", (self.folder / "reels").read_text().splitlines(), wanted[dump], got)
+            self.same(f"{dump.number()}: its payload", (got.stdout, got.stderr, got.returncode), (dump.payload(), b"", DONE))

@@ -1,4 +1,4 @@
-"""Checks from outside what the built `rdump dump --sums FILE` keeps, and what `rdump ls --sums` and `rdump read --sums` say of reels by it.
+"""Checks from outside what the built `rdump dump --sums FILE` keeps, and what `rdump ls --sums` says of reels by it.
 
 What a line has to be follows from the reel's file: its SHA-256 by hashlib, which is compared with that of `sha256sum`, and what the plain decoder of
 tests/lib/listings.py says of it. The server is the built `rmtd`; the plain model of a server takes its place where a request is lost, or something is
@@ -21,7 +21,7 @@ from contextlib import contextmanager
 from pathlib import Path
 from typing import IO, Callable, Iterator, NamedTuple
 
-from tests.lib import drives, listings, restores, shimmed
+from tests.lib import drives, listings, shimmed
 from tests.lib.case import Case
 from tests.lib.checkpoints import ALL_REQUESTS, KEPT, ONE, RUN, SECOND, fill, going_on
 from tests.lib.checkpoints import kept as kept_text
@@ -32,25 +32,23 @@ from tests.lib.dumping import (
     BLOCKS,
     DAY,
     ENTRY,
-    IN_LITTLE_ROOM,
     NO_BLOCK,
     PAYLOAD,
     RESTORE,
     ROOM,
     TWO_VOLUMES,
+    DumpCase,
     Programs,
+    as_nobody,
     end_of,
+    in_room,
     label,
-    without_restore,
 )
 from tests.lib.ended import ABNORMAL, DONE, FAILED, Ended
 from tests.lib.given import given
-from tests.lib.listings import NOBODY, Label
+from tests.lib.listings import Label
 from tests.lib.places import built
 from tests.lib.played_servers import Granting, Model, Reel
-from tests.lib.restores import BINNED
-from tests.lib.restores import UNKNOWN as END_UNKNOWN
-from tests.lib.restores import RestoreCase, counted
 from tests.lib.shim import compiled
 from tests.lib.terminals import CLEAR, Terminal
 from tests.lib.traced import CALLS, in_order, made_in, traced
@@ -58,8 +56,8 @@ from tests.lib.volumes import ROOMY, printed, reels_of, volumes_of
 from tests.lib.waiting import GUARD_SECONDS
 from tests.lib.wire import DEVICE
 from tests.models.checkpoint import Checkpoint, decoded, text_of
-from tests.models.rmtd import Entry, image, images
-from tests.models.sums import DIFFERS, EQUAL, UNKNOWN, bad_line, compared, line_of
+from tests.models.rmtd import image, images
+from tests.models.sums import EQUAL, UNKNOWN, bad_line, compared, line_of
 from tests.models.world import Volume
 
 FILE = "sums"
@@ -143,7 +141,7 @@ def site(p: Programs, reels: int, capacity: int) -> Iterator[Site]:
             yield Site(p, folder, address)
 
 
-class SumsCase(RestoreCase):
+class SumsCase(DumpCase):
     """Tests of a folder with a payload of three blocks, where dumps keep their sums in one file."""
 
     def setUp(self) -> None:
@@ -682,7 +680,7 @@ class Kinds(SumsCase):
     def test_help(self) -> None:
         got = self.p.run("dump", "--help")
         self.same("the help has the word", (got.status, "--sums <FILE>" in got.output), (DONE, True), got)
-        for command in ("ls", "read"):
+        for command in ("ls", "fetch"):
             got = self.p.run(command, "--help")
             self.same(f"the help of {command} has the word", (got.status, "--sums <FILE>" in got.output), (DONE, True), got)
 
@@ -696,28 +694,11 @@ class Kinds(SumsCase):
         shut.chmod(0o555)
         self.addCleanup(shut.chmod, 0o755)
         for name, more in (("there", ": sums can't be kept"), ("missing", ": sums can't be kept"), ("unread", "")):
-            got = self.run_as_nobody(*self.p.dump_words(NOWHERE, "--sums", f"shut/{name}"))
+            got = self.p.run(*self.p.dump_words(NOWHERE, "--sums", f"shut/{name}"), **as_nobody())
             told = rf"rdump: shut/{name}: (its \.new: )?Permission denied \(os error 13\){more}\n"
             is_told = re.fullmatch(told, got.told) is not None
             self.same(f"no permission, {name}", (got.output, got.status, is_told), ("", FAILED, True), got.told, told)
         self.same("no permission: what is there", (shut.joinpath("there").read_bytes(), len([*shut.iterdir()])), (text, 2))
-
-    def run_as_nobody(self, *words: str) -> Ended[str]:
-        """Runs `rdump` as nobody, if root, who may read all files, runs the tests."""
-        is_root = os.geteuid() == 0
-        ran = subprocess.run(
-            (self.p.rdump, *words),
-            cwd=self.p.folder,
-            stdin=subprocess.DEVNULL,
-            capture_output=True,
-            text=True,
-            timeout=GUARD_SECONDS,
-            check=False,
-            user=NOBODY if is_root else None,
-            group=NOBODY if is_root else None,
-            extra_groups=[] if is_root else None,
-        )
-        return Ended(ran.stdout, ran.stderr, ran.returncode)
 
 
 # What it spells.
@@ -785,26 +766,16 @@ class Texts(SumsCase):
                 self.same(f"{title}: ls", self.p.run("ls", *SUMS, "r1"), Ended("", no_sums_file(text), FAILED))
         self.holds("texts: each way is met often", ways["bad"] > 500 and ways["good"] > 20, ways)
 
-    def test_dumps_and_reads_with_bad_texts(self) -> None:
+    def test_dumps_with_bad_texts(self) -> None:
         for text in (self.good[:-1], b"\n", b"\n\n" + self.good, self.good + b"x\n", self.good.upper()):
-            told = no_sums_file(text)
             self.p.file(FILE, text)
-            self.refused(f"a dump with {text[-20:]!r}", re.escape(told), *SUMS)
-            for command in ((), ("--place",), ("--all",)):
-                got = restores.read(self.p, NOWHERE, *SUMS, *command)
-                self.same(f"a read with {text[-20:]!r} {command}", (got, self.out.exists()), (Ended("", told, FAILED), False))
+            self.refused(f"a dump with {text[-20:]!r}", re.escape(no_sums_file(text)), *SUMS)
 
     def test_no_file_and_a_folder(self) -> None:
         self.p.file("r1", FILES[0])
-        for command in (("ls", *SUMS, "r1"), restores.read_words(NOWHERE, *SUMS)):
-            got = self.p.run(*command)
-            told = f"rdump: {FILE}: No such file or directory (os error 2)\n"
-            self.same(f"{command[0]}, and no file", (got, self.out.exists()), (Ended("", told, FAILED), False))
-            self.kept.mkdir()
-            got = self.p.run(*command)
-            is_told = got.told.startswith(f"rdump: {FILE}: ")
-            self.same(f"{command[0]}, and a folder", (got.output, got.status, is_told), ("", FAILED, True), got)
-            self.kept.rmdir()
+        self.told("no file", self.p.run("ls", *SUMS, "r1"), "", FAILED, f"rdump: {FILE}: No such file or directory (os error 2)\n")
+        self.kept.mkdir()
+        self.fails("a folder", self.p.run("ls", *SUMS, "r1"), f"rdump: {FILE}: ")
 
     def test_faults_that_come_before_it(self) -> None:
         self.p.file("bad", b"foo\n")
@@ -915,17 +886,7 @@ class NoRoom(SumsCase):
         old = b"".join(volume_line(number, 9) for number in range(1, 2 * ROOM // 120))
         self.p.file(FILE, old)
         with Model(*two()) as model:
-            ran = subprocess.run(
-                (*IN_LITTLE_ROOM, self.p.rdump, *self.p.dump_words(model.address, *SUMS, "--update")),
-                cwd=self.p.folder,
-                stdin=subprocess.DEVNULL,
-                capture_output=True,
-                text=True,
-                timeout=GUARD_SECONDS,
-                restore_signals=False,
-                check=False,
-            )
-        got = Ended(ran.stdout, without_restore(self, ran.stdout, ran.stderr, ran.returncode), ran.returncode)
+            got = self.p.run(*self.p.dump_words(model.address, *SUMS, "--update"), **in_room(ROOM))
         self.same("in little room: the dump", got.output, TWO_VOLUMES, got)
         self.unentered("in little room", got, FILES, "File too large (os error 27)")
         self.same("in little room: the file", (self.sums(), self.lying()), (old, [FILE]))
@@ -1164,174 +1125,6 @@ class Calls(SumsCase):
     def test_short_writes(self) -> None:
         it = kept_run(self.under_the_library(), "write:1+:s1", SUMS_PATH)
         self.same("each write is of one byte", (it.got.status, it.text), (DONE, b"".join(THREE_LINES)), it.shown())
-
-
-# Volumes that are read back.
-
-USR = restores.USR
-REELS = [restores.reel(it) for it in (1, 2, 3)]
-OTHERS = [data[:-20] + bytes((data[-20] ^ 1,)) + data[-19:] for data in REELS]
-LENGTH = str(len(restores.PAYLOAD))
-OTHER_LABELS = [images([label(2, 2, date=DAY + 1), None]), images([label(2, 2, since=1), None])]
-
-# The text of a sums file, and what the second volume is by that.
-READS = (
-    ("equal", text_for([REELS[1]]), EQUAL),
-    ("equal, of many lines", text_for([*REELS, *OTHERS]), EQUAL),
-    ("differs", text_for([OTHERS[1]]), DIFFERS),
-    ("differs from each of two", text_for([OTHERS[1]]) + volume_line(2, 2), DIFFERS),
-    ("no line of its label", text_for([REELS[0], REELS[2], *OTHER_LABELS]), UNKNOWN),
-    ("no lines", b"", UNKNOWN),
-)
-
-
-class Stack(NamedTuple):
-    """Reels, the text of a sums file, and what those that are read are by that."""
-
-    title: str
-    reels: list[bytes]
-    text: bytes
-    verdicts: tuple[str, ...]
-
-
-STACKS = (
-    Stack("all are equal", REELS, text_for(REELS), (EQUAL, EQUAL, EQUAL)),
-    Stack("none is known", REELS, b"", (UNKNOWN, UNKNOWN, UNKNOWN)),
-    Stack("one is not known", REELS, text_for([REELS[0], REELS[2]]), (EQUAL, UNKNOWN, EQUAL)),
-    Stack("the first differs", [OTHERS[0], *REELS[1:]], text_for(REELS), (DIFFERS,)),
-    Stack("the second differs", [REELS[0], OTHERS[1], REELS[2]], text_for(REELS), (EQUAL, DIFFERS)),
-    Stack("the last differs", [*REELS[:2], OTHERS[2]], text_for(REELS), (EQUAL, EQUAL, DIFFERS)),
-)
-
-
-def tells(volume: int, verdict: str) -> str:
-    """What is told of a volume that has its mark."""
-    return counted(volume) + f"whole, {verdict}\n"
-
-
-class Reads(SumsCase):
-    """Volumes that are read back."""
-
-    def test_one_volume(self) -> None:
-        """As it was, with another byte, and of another label; with each word that may stand beside."""
-        for title, text, verdict in READS:
-            self.p.file(FILE, text)
-            for more in ((), ("--place",), ("--length", "2500"), ("--place", "--length", LENGTH)):
-                self.one_volume(f"a read, {title} {more}", more, verdict)
-
-    def one_volume(self, name: str, more: tuple[str, ...], verdict: str) -> None:
-        """The second volume is read with these words."""
-        self.put_out()
-        with restores.stacked(self.p, REELS[1]) as site:
-            status = ABNORMAL if verdict == DIFFERS else DONE
-            self.told(name, site.read(*SUMS, *more), restores.texts(2), status, tells(2, verdict))
-            site.reels(name, restores.named(REELS[1]), {})
-        blocks = b"".join(restores.blocks(*restores.VOLUMES[1]))
-        want = bytes(2048) + blocks if "--place" in more else blocks
-        # Whether a file of a volume that differs is cut is not told.
-        is_uncut = verdict == DIFFERS and self.out.exists() and self.out.read_bytes().startswith(want)
-        if not is_uncut:
-            self.file_holds(name, self.out, want[: 2500 if "2500" in more else None])
-
-    def test_stacks(self) -> None:
-        """Each volume is compared. One that differs stays, with those behind it, and the file has its blocks; one that is not known goes."""
-        for it in STACKS:
-            for more in ((), ("--place",), ("--length", LENGTH)):
-                self.stack(it, more)
-
-    def stack(self, it: Stack, more: tuple[str, ...]) -> None:
-        """A stack is read with these words."""
-        name = f"a stack, {it.title} {more}"
-        self.put_out()
-        self.p.file(FILE, it.text)
-        went = sum(verdict != DIFFERS for verdict in it.verdicts)
-        lines = "".join(tells(number, verdict) + BINNED * (verdict != DIFFERS) for number, verdict in enumerate(it.verdicts, 1))
-        # A restore that ends early says which blocks are missing in front of the last; here none is.
-        lines += END_UNKNOWN if went == 3 and "--length" not in more else ""
-        with restores.stacked(self.p, *it.reels) as site:
-            printed_texts = restores.texts(*range(1, len(it.verdicts) + 1))
-            self.told(name, site.read("--all", *SUMS, *more), printed_texts, DONE if went == 3 else ABNORMAL, lines)
-            files = list(restores.named(*it.reels).items())
-            site.reels(name, dict(files[went:]), dict(files[:went]))
-            blocks = b"".join(block or b"" for data in it.reels[: len(it.verdicts)] for block in listings.decoded(data)[0][1:])
-            self.file_holds(name, self.out, blocks[: len(restores.PAYLOAD)] if went == 3 and "--length" in more else blocks)
-            if went < 3:
-                got = self.p.run("mt", "--to", site.address, "--device", DEVICE, "nop", "1")
-                self.same(f"{name}: the drive is free", got.status, DONE, got)
-
-    def test_the_sums_file_is_read_into(self) -> None:
-        """By its own name, and by links: nothing is read, and the file keeps its lines."""
-        text = text_for(REELS)
-        self.p.file(FILE, text)
-        self.p.folder.joinpath("to-sums").symlink_to(FILE)
-        os.link(self.p.folder / FILE, self.p.folder / "hard")
-        for out in (FILE, f"./{FILE}", "to-sums", "hard"):
-            for more in ((), ("--place",), ("--all",), ("--length", "2500")):
-                with restores.stacked(self.p, REELS[0]) as site:
-                    name = f"into {out} {more}"
-                    self.told(name, site.read(*SUMS, *more, out=out), "", FAILED, f"rdump: {out}: it is the sums file too: {FILE}\n")
-                    site.reels(name, restores.named(REELS[0]), {})
-                self.same(f"{name}: the lines", self.sums(), text)
-
-    def test_no_mark(self) -> None:
-        cut = REELS[1][:-4]
-        for text in (text_for(REELS), b""):
-            self.p.file(FILE, text)
-            for more in ((), ("--place",), ("--all",)):
-                name, lost = f"no mark {more}", "blocks 0 to 1 are missing\n" if "--all" in more else ""
-                self.put_out()
-                with restores.stacked(self.p, cut, REELS[2]) as site:
-                    words = counted(2) + f"rdump: {site.address}: no mark\n" + lost
-                    self.told(name, site.read(*SUMS, *more), restores.texts(2), ABNORMAL, words)
-                    site.reels(name, restores.named(cut, REELS[2]), {})
-
-    def test_no_volumes(self) -> None:
-        for text in (text_for(REELS), b""):
-            self.p.file(FILE, text)
-            for more in ((), ("--place",), ("--all",)):
-                for title, data in (("text", images([b"hello", b"wor", b"ld", None])), ("an empty reel", b""), ("a mark", images([None]))):
-                    with restores.stacked(self.p, data) as site:
-                        plain, got = site.read(*more, out="plain"), site.read(*SUMS, *more)
-                        self.same(f"{title} {more}: as without the word", got, plain)
-                        seen = ("sum" in got.told, "is not a volume of rdump: " in got.told)
-                        self.same(f"{title} {more}: no sum is told", seen, (False, True), got)
-                        site.reels(f"{title} {more}", restores.named(data), {})
-
-    def test_more_behind_the_mark(self) -> None:
-        rows: tuple[tuple[str, tuple[Entry, ...]], ...] = (
-            ("a second mark", (None,)),
-            ("a second volume", (USR.label(9, 9), None)),
-            ("records", (b"x",)),
-        )
-        for text, verdict in ((text_for(REELS), EQUAL), (b"", UNKNOWN)):
-            self.p.file(FILE, text)
-            for title, more in rows:
-                with restores.stacked(self.p, images([*restores.entries(1), *more])) as site:
-                    self.told(f"{title} behind the mark", site.read(*SUMS, "--place"), restores.texts(1), DONE, tells(1, verdict))
-
-    def test_blocks_of_two_lengths(self) -> None:
-        self.p.file(FILE, text_for([REELS[0]]))
-        with restores.stacked(self.p, images([USR.label(1, 0), bytes(1024), bytes(10), None])) as site:
-            got = site.read(*SUMS)
-            is_told = got.told.endswith("whole, sum differs\n")
-            self.same("blocks of two lengths: they differ", (got.status, is_told), (ABNORMAL, True), got)
-            got = site.read(*SUMS, "--place")
-            self.same("blocks of two lengths have no places", (got.status, "sum" in got.told), (ABNORMAL, False), got)
-
-    def test_each_byte_is_changed(self) -> None:
-        """Each byte of a small reel: no read says that it is equal, and one ends with 0 only if the label is not known."""
-        data = images([USR.label(1, 0), b"block one", b"block two", None])
-        self.p.file(FILE, line_of(data))
-        with listings.at_reel(self.p.folder, data) as address:
-            path, site = self.p.folder / "st0/r1", restores.Site(self.p, self.p.folder, address)
-            self.holds("a small reel is equal", site.read("--place", *SUMS).told.endswith("whole, sum equal\n"))
-            # The label's zero bytes are alike.
-            for at in [it for it in range(len(data)) if not (120 < it < 1000 and it % 37)]:
-                path.write_bytes(data[:at] + bytes((data[at] ^ 1,)) + data[at + 1 :])
-                got = site.read("--place", *SUMS)
-                # A reel that has another label is not known.
-                right = EQUAL not in got.told and (got.status == ABNORMAL or UNKNOWN in got.told)
-                self.holds(f"byte {at} is changed: a read", right, got)
 
 
 # Reels that are listed.

@@ -1,7 +1,8 @@
-"""Checks what the built `rdump` tells on standard error, and what becomes of the file that a volume is read back into.
+"""Checks what the built `rdump` tells on standard error.
 
 What stands on standard output and the status are compared too. A server of the tests answers with what it is told to, and sees when a client ends
 the connection. A payload on a block device takes root and a loop device; where they are not to be had, that is named as skipped.
+tests/checks/restore.py has the file that a volume is read back into.
 """
 
 from __future__ import annotations
@@ -11,10 +12,8 @@ import re
 import shutil
 import socket
 import subprocess
-import threading
 import time
 from contextlib import contextmanager
-from functools import partial
 from pathlib import Path
 from typing import Iterator
 
@@ -23,8 +22,8 @@ from tests.lib.dumping import BLOCKS, DAY, EMPTY_VOLUME, ENTRY, LABEL, LOST, NO_
 from tests.lib.ended import ABNORMAL, DONE, FAILED, Ended
 from tests.lib.played_servers import Model, Reel, Said
 from tests.lib.processes import peak_of
-from tests.lib.refusals import OPEN, READ, refused, refused_with
-from tests.lib.restores import EMPTY, NO_LABEL, foreign
+from tests.lib.refusals import OPEN, refused
+from tests.lib.restores import NO_LABEL, foreign
 from tests.lib.terminals import CLEAR, Terminal
 from tests.lib.waiting import GUARD_SECONDS
 from tests.lib.wire import DEVICE, record
@@ -78,99 +77,6 @@ class Volumes(TellCase):
                 tells += foreign(address, NO_LABEL) if is_foreign else ""
                 self.told(title, self.read(address), first.split(b"\0")[0].decode(), DONE, tells)
             self.same(f"{title}: the file", self.p.bytes_of("volume"), b"".join(blocks))
-
-    def test_a_volume_without_its_mark(self) -> None:
-        with self.p.listening() as (address, _):
-            write_volume(address, [label(1, 0), *BLOCKS])
-            self.told("a volume without its mark", self.read(address), LABEL, DONE, "3 blocks of 1024 bytes\n")
-
-    def test_reading_that_is_cut_off(self) -> None:
-        opened = (b"A0\n", b"A1\n", record(label(1, 0)), record(BLOCKS[0]))
-        none, one = "0 blocks\n", "1 block of 1024 bytes\n"
-        for title, replies, output, count, tells in (
-            ("cut off before the label", opened[:2], "", "", ENDED),
-            ("cut off after the label", opened[:3], LABEL, none, ENDED),
-            ("cut off after a block", opened, LABEL, one, ENDED),
-            ("refused after a block", (*opened, b"E5\nbroken\n"), LABEL, one, refused_with(5, READ)[:-1]),
-            ("no reply", (*opened, b"X\n"), LABEL, one, "no reply by the protocol"),
-        ):
-            with Said(*replies) as server:
-                self.told(title, self.read(server.address), output, ABNORMAL, f"{count}rdump: {server.address}: {tells}\n")
-
-
-class Files(TellCase):
-    """When the file that a volume is read into is emptied, made and removed."""
-
-    def is_kept(self, name: str, address: str, status: int, words: str) -> None:
-        """A file that is there holds what it held, and one that is not is not there afterwards."""
-        self.p.file("held", OLD)
-        for out in ("held", "made"):
-            got = self.read(address, out)
-            self.same(f"{name}: {out}", (got.status, words in got.told), (status, True), got.told)
-        self.same(f"{name}: kept", self.p.bytes_of("held"), OLD)
-        self.same(f"{name}: removed", self.p.folder.joinpath("made").exists(), False)
-
-    def test_nothing_is_read(self) -> None:
-        self.is_kept("no server", NOWHERE, ABNORMAL, REFUSED)
-        with self.p.listening() as (address, _):
-            self.is_kept("an empty reel", address, DONE, foreign(address, EMPTY))
-        with Said(b"E6\nno reel\n", b"E6\nno reel\n") as server:
-            self.is_kept("a refused open", server.address, ABNORMAL, "open refused with E6")
-
-    def test_a_volume_is_read(self) -> None:
-        volumes: dict[str, list[bytes]] = {"blocks": BLOCKS, "no blocks": []}
-        for title, blocks in volumes.items():
-            with self.p.listening() as (address, _):
-                write_volume(address, [label(1, 0), *blocks, None])
-                for out in ("held", "made"):
-                    self.p.file("held", OLD)
-                    self.same(f"{title} into {out}", self.read(address, out).status, DONE)
-                    self.same(f"{title} into {out}: the bytes", self.p.bytes_of(out), b"".join(blocks))
-
-    def test_a_label_is_read(self) -> None:
-        self.p.file("held", OLD)
-        with Said(b"A0\n", b"A1\n", record(label(1, 0))) as server:
-            self.read(server.address, "held")
-        self.same("a label and no more", self.p.bytes_of("held"), b"")
-
-    def test_a_file_that_cannot_be_made(self) -> None:
-        with Said() as server:
-            got = self.read(server.address, "none/volume")
-        self.told("a file that can't be made", got, "", FAILED, "rdump: none/volume: No such file or directory (os error 2)\n")
-        self.same("a file that can't be made: nothing is sent", server.connections, 0)
-
-    def test_devices(self) -> None:
-        """A full one, and one that keeps nothing."""
-        with self.p.listening() as (address, _), open("/dev/full", "wb") as full:
-            write_volume(address, [label(1, 0), *BLOCKS, None])
-            tells = "0 blocks\nrdump: /dev/full: No space left on device (os error 28)\n"
-            self.told("a full file", self.read(address, "/dev/full"), LABEL, ABNORMAL, tells)
-            self.told("a file that keeps nothing", self.read(address, "/dev/null"), LABEL, DONE, "3 blocks of 1024 bytes\n")
-            got = self.read(address, stdout=full.fileno())
-            self.told("a full output", got, "", ABNORMAL, "0 blocks\nrdump: standard output could not be written\n")
-
-    def test_two_reads_into_one_file(self) -> None:
-        """The first has made it, and the second is refused. A file that takes the name meanwhile is not removed."""
-        for title, other in (("alone", None), ("with another file at its name", b"not ours")):
-            gate = threading.Event()
-            with Said(b"E16\nbusy\n", before=partial(gate.wait, GUARD_SECONDS)) as server:
-                with self.p.started("read", "--to", server.address, "--device", DEVICE, "--out", "volume") as first:
-                    while not server.connections and first.poll() is None:
-                        time.sleep(0.01)
-                    self.is_refused_beside_another(title)
-                    if other is not None:
-                        self.p.folder.joinpath("volume").unlink()
-                        self.p.file("volume", other)
-                    gate.set()
-                    first.communicate(timeout=GUARD_SECONDS)
-            self.same(f"two reads, {title}: the first", first.returncode, ABNORMAL)
-            self.same(f"two reads, {title}: the file", self.p.bytes_of("volume"), other)
-
-    def is_refused_beside_another(self, title: str) -> None:
-        """A read into a file that another read has is refused, and sends nothing."""
-        with Said() as server:
-            self.told(f"two reads, {title}: the second", self.read(server.address), "", FAILED, "rdump: volume: another run writes it\n")
-        self.same(f"two reads, {title}: nothing is sent", server.connections, 0)
 
 
 class Reasons(TellCase):

@@ -2,18 +2,22 @@
 
 from __future__ import annotations
 
+import os
 import re
+import resource
+import signal
 import subprocess
 import tempfile
 from contextlib import contextmanager
 from pathlib import Path
-from typing import Iterator
+from typing import Any, Iterator
 
 from tests.lib.case import Case
 from tests.lib.connections import address_of, connected, text_of
 from tests.lib.drives import data_of
 from tests.lib.ended import FAILED, Ended
 from tests.lib.given import given
+from tests.lib.listings import NOBODY
 from tests.lib.places import CRATES, built
 from tests.lib.processes import guarded
 from tests.lib.servers import listening
@@ -30,6 +34,26 @@ IN_LITTLE_ROOM = ("sh", "-c", 'ulimit -f 16 && exec "$0" "$@"')
 
 # What a dump says last, once it is complete.
 RESTORE = re.compile(r"^to restore: .*\n", re.M)
+
+
+def needs(address: str, size: int, blocks: int) -> str:
+    """What a dump of so many bytes and blocks says last."""
+    return f"to restore: {blocks} blocks, {size} bytes: rdump fetch --to {address} --device {DEVICE} --into FOLDER\n"
+
+
+def in_room(room: int) -> dict[str, Any]:
+    """How a program is started that can write files of so many bytes at most, as if the disk were full then."""
+
+    def limit() -> None:
+        signal.signal(signal.SIGXFSZ, signal.SIG_IGN)
+        resource.setrlimit(resource.RLIMIT_FSIZE, (room, room))
+
+    return {"preexec_fn": limit, "restore_signals": False}
+
+
+def as_nobody() -> dict[str, Any]:
+    """How a program is started as nobody, if root, who may read and write all files, runs the tests."""
+    return {"user": NOBODY, "group": NOBODY, "extra_groups": []} if os.geteuid() == 0 else {}
 
 
 def without_restore(case: Case, output: str, told: str, status: int) -> str:
@@ -59,9 +83,9 @@ class Programs:
         self.folder = folder
 
     def ran(
-        self, *words: str, said: str = "", stdout: int = subprocess.PIPE, stderr: int = subprocess.PIPE, program: str | None = None
+        self, *words: str, said: str = "", stdout: int = subprocess.PIPE, stderr: int = subprocess.PIPE, program: str | None = None, **how: Any
     ) -> Ended[str]:
-        """What came of `rdump`, or of another program, with these words and this standard input."""
+        """What came of `rdump`, or of another program, with these words and this standard input, started as `how` tells Popen."""
         ended = subprocess.run(
             (program or self.rdump, *words),
             cwd=self.folder,
@@ -70,14 +94,15 @@ class Programs:
             stderr=stderr,
             timeout=GUARD_SECONDS,
             check=False,
+            **how,
         )
         return Ended((ended.stdout or b"").decode(), (ended.stderr or b"").decode(errors="replace"), ended.returncode)
 
     def run(
-        self, *words: str, said: str = "", stdout: int = subprocess.PIPE, stderr: int = subprocess.PIPE, program: str | None = None
+        self, *words: str, said: str = "", stdout: int = subprocess.PIPE, stderr: int = subprocess.PIPE, program: str | None = None, **how: Any
     ) -> Ended[str]:
         """The same, but what is told is without the line that says what a restore needs. It is told once where a dump is complete."""
-        got = self.ran(*words, said=said, stdout=stdout, stderr=stderr, program=program)
+        got = self.ran(*words, said=said, stdout=stdout, stderr=stderr, program=program, **how)
         is_seen = stdout == stderr == subprocess.PIPE
         return got._replace(told=without_restore(self.case, *got) if is_seen else RESTORE.sub("", got.told))
 

@@ -14,6 +14,7 @@ def commands(p: Programs, address: str, *more: str) -> dict[str, list[str]]:
     return {
         "dump": [p.rdump, *p.dump_words(address, *more)],
         "read": [p.rdump, "read", *drive, "--out", "read"],
+        "fetch": [p.rdump, "fetch", *drive, "--into", "."],
         "mt": [p.rdump, "mt", *drive, "nop", "1"],
         "ls": [p.rdump, "ls", *drive],
     }
@@ -22,7 +23,7 @@ def commands(p: Programs, address: str, *more: str) -> dict[str, list[str]]:
 def unreached(why: str, address: str) -> dict[str, Ended[str]]:
     """How each command ends where there is no connection, for this reason."""
     reason = f"rdump: {address}: {why}\n"
-    statuses = {"dump": ABNORMAL, "read": ABNORMAL, "mt": ABNORMAL, "ls": FAILED}
+    statuses = {"dump": ABNORMAL, "read": ABNORMAL, "fetch": ABNORMAL, "mt": ABNORMAL, "ls": FAILED}
     return {name: Ended(LOST if name == "dump" else "", reason, status) for name, status in statuses.items()}
 
 

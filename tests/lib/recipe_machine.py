@@ -16,8 +16,8 @@ import tempfile
 from pathlib import Path
 from typing import Iterable, NamedTuple
 
-from tests.lib.machines import ENVIRONMENT, furnish, loopback, open_for_ssh
-from tests.lib.recipes import USED, Recipe, all_recipes, script_of
+from tests.lib.machines import ENVIRONMENT, HOME, furnish, loopback, open_for_ssh
+from tests.lib.recipes import TUTORIAL, USED, Recipe, all_recipes, script_of
 
 USER = "ann"
 USER_ENVIRONMENT = {"PATH": "/usr/local/bin:/usr/bin:/bin", "HOME": f"/home/{USER}", "USER": USER, "LANG": "C.UTF-8"}
@@ -40,6 +40,13 @@ def added_user() -> Who:
     """Adds the user who runs the README's commands, with a home."""
     subprocess.run(("useradd", "--create-home", "--shell", "/bin/sh", USER), check=True, stdout=subprocess.DEVNULL)
     return Who(USER_ENVIRONMENT, PAUSE, USER, pwd.getpwnam(USER).pw_gid, ())
+
+
+def who_runs(titles: list[str]) -> Who:
+    """Who runs these recipes."""
+    if titles == [USED]:
+        return added_user()
+    return Who(ENVIRONMENT | {"PATH": f"{ENVIRONMENT['PATH']}:{HOME}/etc"}) if titles == [TUTORIAL] else Who()
 
 
 def paste(recipe: Recipe, shell: str, who: Who) -> int:
@@ -92,7 +99,7 @@ def main() -> int:
     furnish(any("apt" in it.needs for it in recipes))
     if any("sshd" in it.needs for it in recipes):
         open_for_ssh()
-    who = added_user() if words.titles == [USED] else Who()
+    who = who_runs(words.titles)
     os.chdir(who.environment["HOME"])
     return paste(recipes[0], words.paste, who) if words.paste else run(recipes, who)
 

@@ -7,15 +7,16 @@ import subprocess
 import time
 from contextlib import contextmanager
 from pathlib import Path
-from typing import Iterator, NamedTuple
+from typing import Iterator, Mapping, NamedTuple, Sequence
 
-from tests.lib.drives import data_of, drive_words, folders, held
-from tests.lib.dumping import DAY, DumpCase, Programs
+from tests.lib.drives import drive_words, folders, held
+from tests.lib.dumping import DAY, Programs
 from tests.lib.ended import Ended
+from tests.lib.listings import GREATEST_RECORD, LAST_BLOCK, LAST_SECOND, Label, decoded, label_of
 from tests.lib.played_servers import Model, Reel
-from tests.lib.refusals import OPEN, refused_with
+from tests.lib.refusals import refused_with
 from tests.lib.waiting import GUARD_SECONDS
-from tests.lib.wire import DEVICE
+from tests.lib.wire import CLOSE, DEVICE, REWIND, opened
 from tests.models.rmtd import Entry, images
 
 BLOCK = 1024
@@ -31,8 +32,16 @@ VOLUMES = ((0, 2), (2, 5), (5, 6))
 NO_LABEL, EMPTY, MARK = "it begins with a record that is no label", "it is empty", "it begins with a mark"
 EMPTY_OR_MARK = "it is empty, or begins with a mark"
 
-BINNED = "the reel is in the bin\n"
-UNKNOWN = "the end of the dump is not known: without --length the last volumes may be missing\n"
+NO_REPLY, CUT = "no reply by the protocol", "the connection ended"
+UNPRINTED = "rdump: standard output could not be written\n"
+
+# What is asked of a drive: to open it for reading alone, to read a record, to go back over one, and over a mark.
+OPEN, READ, BACK, OVER = opened(mode=0), b"R262144\n", b"I4\n1\n", b"I1\n1\n"
+# What a look asks of a reel that gives no record.
+LOOK = [OPEN, REWIND, b"R1024\n", REWIND, OVER, CLOSE]
+
+# The folder of the copies of reels.
+INTO = "into"
 
 
 def foreign(address: str, why: str) -> str:
@@ -48,13 +57,9 @@ class Dump(NamedTuple):
     date: int = DAY
     since: int = 0
 
-    def text(self, volume: int, first: int) -> str:
-        """The text of the label of a volume."""
-        return f"name {self.name}\nlevel {self.level}\ndate {self.date}\nsince {self.since}\nvolume {volume}\nfirst {first}\n"
-
     def label(self, volume: int, first: int) -> bytes:
         """The label of a volume."""
-        return self.text(volume, first).encode().ljust(1024, b"\0")
+        return Label(*self, volume, first).record()
 
 
 USR = Dump()
@@ -76,20 +81,97 @@ def reel(volume: int, dump: Dump = USR) -> bytes:
     return images(entries(volume, dump))
 
 
-def sizes(count: int, size: int = BLOCK) -> str:
-    """What is told of so many blocks of a size."""
-    return f"1 block of {size} bytes\n" if count == 1 else f"{count} blocks of {size} bytes\n" if count else "0 blocks\n"
+# Volumes of no block, of small blocks, of the longest ones, of many blocks, and with the least and the greatest numbers.
+KINDS = {
+    "no block": images([USR.label(1, 0), None]),
+    "a byte": images([USR.label(1, 0), b"x", None]),
+    "the longest": images([USR.label(1, 0), bytes(GREATEST_RECORD), b"y" * GREATEST_RECORD, None]),
+    "many": images([USR.label(1, 0), *(number.to_bytes(2, "big") for number in range(3000)), None]),
+    "the greatest numbers": images([Dump("x" * 20, 9, LAST_SECOND, LAST_SECOND).label(LAST_BLOCK, LAST_BLOCK), b"z", None]),
+    "the least": images([Dump("x", 0, 0, 0).label(1, 0), b"z", None]),
+}
+
+# The first volume, with more behind its mark.
+MORE = {
+    "a second volume": images([*entries(1), *entries(2)]),
+    "a second mark": images([*entries(1), None]),
+    "records": images([*entries(1), b"x", b"y"]),
+    "a mark and a volume": images([*entries(1), None, *entries(3)]),
+    "a tail": reel(1) + b"tail",
+}
+
+# Reels that are no volume, each with what is told of it.
+FOREIGN = {
+    "an empty reel": (b"", EMPTY),
+    "a tail that is no record": (b"\x05\0\0\0hel", EMPTY),
+    "half a label": (reel(1)[:500], EMPTY),
+    "a label without its last byte": (reel(1)[:1031], EMPTY),
+    "a mark": (images([None]), MARK),
+    "a mark and a volume": (images([None, *entries(1)]), MARK),
+    "text": (images([b"hello", b"world", None]), NO_LABEL),
+    "zero bytes": (images([bytes(1024), *blocks(0, 2), None]), NO_LABEL),
+    "a volume 0": (images([USR.label(0, 0), *blocks(0, 2), None]), NO_LABEL),
+    "a level 10": (images([Dump(level=10).label(1, 0), *blocks(0, 2), None]), NO_LABEL),
+    "a line more": (images([USR.label(1, 0).rstrip(b"\0") + b"more 1\n", *blocks(0, 2), None]), NO_LABEL),
+    "a name with a control character": (images([Dump(name="/u\x1bsr").label(1, 0), *blocks(0, 2), None]), NO_LABEL),
+    "a name with a letter that is no ASCII": (images([Dump(name="/\xfc").label(1, 0), None]), NO_LABEL),
+    "a long record": (images([bytes(GREATEST_RECORD), None]), NO_LABEL),
+}
+
+
+def cuts(data: bytes) -> dict[str, bytes]:
+    """A reel that was cut at each kind of place behind its label, by the name of the place."""
+    ends = [len(images(decoded(data)[0][:count])) for count in range(1, len(decoded(data)[0]))]
+    places = {f"behind record {number}": end for number, end in enumerate(ends)}
+    for number, end in enumerate(ends[:-1]):
+        places |= {f"{more} bytes behind record {number}": end + more for more in (1, 4, 500, 1028, 1031)}
+    places |= {f"{more} bytes behind the last record": ends[-1] + more for more in (1, 3)}
+    return {name: data[:end] for name, end in places.items()}
+
+
+def up_to_mark(data: bytes) -> list[Entry]:
+    """The entries of a record file up to its first mark, which is the last of them if there is one."""
+    entries, _ = decoded(data)
+    return entries[: entries.index(None) + 1] if None in entries else entries
+
+
+def sizes(blocks: Sequence[bytes]) -> str:
+    """What is told of so many blocks that were read."""
+    lengths = [*map(len, blocks)]
+    if len(lengths) < 2:
+        return f"1 block of {lengths[0]} bytes\n" if lengths else "0 blocks\n"
+    if min(lengths) == max(lengths):
+        return f"{len(lengths)} blocks of {lengths[0]} bytes\n"
+    return f"{len(lengths)} blocks of {min(lengths)} to {max(lengths)} bytes, {sum(lengths)} bytes in all\n"
 
 
 def counted(volume: int) -> str:
     """What is told of the blocks of a volume."""
-    first, end = VOLUMES[volume - 1]
-    return sizes(end - first)
+    return sizes(blocks(*VOLUMES[volume - 1]))
 
 
 def texts(*volumes: int) -> str:
     """The texts of the labels of these volumes, one after the other."""
-    return "".join(USR.text(it, VOLUMES[it - 1][0]) for it in volumes)
+    return "".join(USR.label(it, VOLUMES[it - 1][0]).rstrip(b"\0").decode() for it in volumes)
+
+
+class Came(NamedTuple):
+    """What comes of a reel that is read: what is printed and told, and what the file holds then."""
+
+    output: str
+    told: str
+    file: bytes
+
+
+def came_of(data: bytes, address: str) -> Came:
+    """What comes of this reel. Of an empty one, and of a mark, that is told which it is."""
+    found = up_to_mark(data)
+    records = [it for it in found if it is not None]
+    if not records:
+        return Came("", foreign(address, MARK if found else EMPTY), b"")
+    first, *rest = records
+    what = "" if label_of(first) else foreign(address, NO_LABEL)
+    return Came(first.split(b"\0")[0].decode(), sizes(rest) + what, b"".join(rest))
 
 
 def read_words(address: str, *more: str, out: str = "out") -> tuple[str, ...]:
@@ -97,27 +179,14 @@ def read_words(address: str, *more: str, out: str = "out") -> tuple[str, ...]:
     return ("read", "--to", address, "--device", DEVICE, "--out", out, *more)
 
 
-def read(p: Programs, address: str, *more: str, out: str = "out", stdout: int = subprocess.PIPE, stderr: int = subprocess.PIPE) -> Ended[str]:
+def read(p: Programs, address: str, *more: str, out: str = "out") -> Ended[str]:
     """Runs `rdump read`."""
-    return p.run(*read_words(address, *more, out=out), stdout=stdout, stderr=stderr)
+    return p.run(*read_words(address, *more, out=out))
 
 
-class RestoreCase(DumpCase):
-    """Tests that read volumes back into the file `out` of their folder, or others."""
-
-    def setUp(self) -> None:
-        super().setUp()
-        self.out = self.p.folder / "out"
-
-    def put_out(self, before: bytes | None = None) -> None:
-        """Has the file hold these bytes before it is read into. If they are None, there is no such file."""
-        self.out.unlink(missing_ok=True)
-        if before is not None:
-            self.out.write_bytes(before)
-
-    def file_holds(self, name: str, path: Path, data: bytes | None) -> None:
-        """A file holds these bytes. If they are None, there is no such file."""
-        self.same(f"{name}: the file", data_of(path), data)
+def fetch_words(address: str, *more: str, into: str = INTO) -> tuple[str, ...]:
+    """The words of `rdump fetch`, which come after the name of the program."""
+    return ("fetch", "--to", address, "--device", DEVICE, "--into", into, *more)
 
 
 class Site(NamedTuple):
@@ -127,18 +196,24 @@ class Site(NamedTuple):
     folder: Path
     address: str
 
-    def read(self, *more: str, out: str = "out", stdout: int = subprocess.PIPE, stderr: int = subprocess.PIPE) -> Ended[str]:
-        """Reads, once nobody has the drive: a run that stopped at a foreign reel has it until the server has seen its end."""
+    def ran(self, words: tuple[str, ...], stdout: int, stderr: int) -> Ended[str]:
+        """Runs a command once nobody has the drive: a run that stopped at a reel has it until the server has seen its end."""
         until = time.monotonic() + GUARD_SECONDS
-        while (got := read(self.p, self.address, *more, out=out, stdout=stdout, stderr=stderr)).told == self.busy():
-            if time.monotonic() > until:
-                break
+        while (got := self.p.run(*words, stdout=stdout, stderr=stderr)).told.endswith(self.refused(16)) and time.monotonic() < until:
             time.sleep(0.01)
         return got
 
-    def busy(self) -> str:
-        """What is told if another has the drive."""
-        return f"rdump: {self.address}: {refused_with(16, OPEN)}"
+    def read(self, *more: str, out: str = "out", stdout: int = subprocess.PIPE, stderr: int = subprocess.PIPE) -> Ended[str]:
+        """Reads the first reel."""
+        return self.ran(read_words(self.address, *more, out=out), stdout, stderr)
+
+    def fetch(self, *more: str, into: str = INTO, stdout: int = subprocess.PIPE, stderr: int = subprocess.PIPE) -> Ended[str]:
+        """Fetches the reels."""
+        return self.ran(fetch_words(self.address, *more, into=into), stdout, stderr)
+
+    def refused(self, number: int) -> str:
+        """What is told if the open is refused: with 6 if the stack is empty, and with 16 if another has the drive."""
+        return f"rdump: {self.address}: {refused_with(number, 'open')}"
 
     def reels(self, name: str, stack: dict[str, bytes], taken: dict[str, bytes]) -> None:
         """The stack and the bin have these reels."""
@@ -153,19 +228,27 @@ def named(*reels: bytes) -> dict[str, bytes]:
 
 
 @contextmanager
-def stacked(p: Programs, *reels: bytes) -> Iterator[Site]:
+def laid(p: Programs, **reels: bytes) -> Iterator[Site]:
     """A server with a stack of these reels."""
-    with folders(**named(*reels)) as folder:
+    with folders(**reels) as folder:
         with p.listening("--capacity", "1048576", *drive_words(folder)) as (address, _):
             yield Site(p, folder, address)
 
 
-def loaded(*volumes: int, replies: dict[int, bytes | None] | None = None) -> Model:
-    """The plain model of a server, with a reel for each of these volumes. It gives these replies to the requests of these numbers, counted from 1;
-    to one whose reply is None, it ends the connection."""
-    others = replies or {}
-    reels = [Reel(f"r{it}", 1 << 20) for it in volumes]
-    for it, volume in zip(reels, volumes):
-        it.entries = entries(volume)
-    said = {number: it for number, it in others.items() if it is not None}
-    return Model(*reels, said=said, lost=tuple(number for number, it in others.items() if it is None))
+def laid_reel(records: Sequence[Entry], name: str = "r") -> Reel:
+    """A reel of the plain model with these entries."""
+    found = Reel(name, 1 << 20)
+    found.entries = [*records]
+    return found
+
+
+def answering(*reels: Reel, replies: Mapping[int, bytes | None]) -> Model:
+    """The plain model of a server with these reels. It gives these replies to the requests of these numbers, counted from 1; to one whose reply is
+    None, it ends the connection."""
+    said = {number: it for number, it in replies.items() if it is not None}
+    return Model(*reels, said=said, lost=tuple(number for number, it in replies.items() if it is None))
+
+
+def loaded(*volumes: int, replies: Mapping[int, bytes | None] | None = None) -> Model:
+    """The same, with a reel for each of these volumes."""
+    return answering(*(laid_reel(entries(it), f"r{it}") for it in volumes), replies=replies or {})

@@ -1,4 +1,5 @@
-"""Looks at the style and the types of all Python here: runs `flake8` and `mypy` over tests/, bench/ and packaging/deb.py.
+"""Looks at the style and the types of all Python here: runs `flake8` and `mypy` over tests/, bench/, packaging/deb.py and
+etc/join-reels.
 
     python3 -m tests.tools.style
 
@@ -13,7 +14,7 @@ import sys
 
 from tests.lib.places import TOP
 
-CHECKED = ("tests", "bench", "packaging/deb.py")
+CHECKED = ("tests", "bench", "packaging/deb.py", "etc/join-reels")
 CHECKERS = (("flake8", *CHECKED), ("mypy", "--strict", *CHECKED))
 
 

@@ -58,34 +58,34 @@ class Gate(Made):
         path = f"{kit / 'path'}:{os.environ['PATH']}"
         self.enterContext(patch.dict(os.environ, {"PATH": path, "CALLS": str(self.calls), "KIT": str(kit), "MEANWHILE": ""}))
         self.enterContext(patch.object(gate, "TOP", self.top))
-        self.enterContext(patch.object(gate, "check_outside", lambda _: 0))
+        self.enterContext(patch.object(gate, "check_outside", lambda *_: []))
         build.kit.cache_clear()
         self.addCleanup(build.kit.cache_clear)
 
-    def run_gate(self, with_edits: bool = True) -> tuple[int, str]:
-        """The exit status of the gate, and what it printed."""
+    def run_gate(self, with_edits: bool = True) -> tuple[list[str], str]:
+        """What failed in a run of the gate, and what it printed."""
         with redirect_stdout(StringIO()) as said:
-            status = gate.run_all(Path(self.enterContext(tempfile.TemporaryDirectory(dir=self.folder))), with_edits)
-        return status, said.getvalue()
+            failed = gate.run_all(Path(self.enterContext(tempfile.TemporaryDirectory(dir=self.folder))), with_edits)
+        return failed, said.getvalue()
 
     def called(self, name: str) -> list[str]:
         return [it for it in self.calls.read_text().splitlines() if it.startswith(name)]
 
     def test_edits(self) -> None:
-        status, said = self.run_gate()
-        self.same("it passes", status, 0, said)
+        failed, said = self.run_gate()
+        self.same("it passes", failed, [], said)
         self.holds("the edit is refused", "further edits: 1 refused, 0 not" in said, said)
         self.same("`rt ci` is called once", self.called("rt ci"), ["rt ci"])
         found = self.called("rattle ")
         self.same("one check tries the edit", len(found), 1, found)
         self.holds("over the library below it", all("--extern other=" in it for it in found), found)
         before = len(found)
-        status, said = self.run_gate()
-        self.same("a refusal that is kept is not tried again", (status, len(self.called("rattle "))), (0, before), said)
+        failed, said = self.run_gate()
+        self.same("a refusal that is kept is not tried again", (failed, len(self.called("rattle "))), ([], before), said)
 
     def test_no_edits(self) -> None:
-        status, said = self.run_gate(with_edits=False)
-        self.same("no edit is tried", (status, self.called("rattle "), "further" in said), (0, [], False), said)
+        failed, said = self.run_gate(with_edits=False)
+        self.same("no edit is tried", (failed, self.called("rattle "), "further" in said), ([], [], False), said)
 
     def test_sources_that_change_meanwhile(self) -> None:
         with patch.dict(os.environ, {"MEANWHILE": "echo '//! More.' > crates/other/src/lib.rt"}):
@@ -95,16 +95,22 @@ class Gate(Made):
         self.same("no library counts as built", [it for it in crates if build.is_noted(crates, it, sums)], [])
 
     def test_a_run_that_fails(self) -> None:
-        with patch.dict(os.environ, {"MEANWHILE": "echo '1 passed, 1 failed'; exit 1"}):
-            status, said = self.run_gate()
-        self.same("it fails, and no edit is tried", (status, self.called("rattle ")), (1, []), said)
+        with patch.dict(os.environ, {"MEANWHILE": "echo 'rt: words NOT PROVED'; echo '1 passed, 1 failed'; exit 1"}):
+            failed, said = self.run_gate()
+        wanted = ["rt: words NOT PROVED", "1 passed, 1 failed", "rt ci ended with status 1"]
+        self.same("it tells what failed, and no edit is tried", (failed, self.called("rattle ")), (wanted, []), said)
+
+    def test_an_edit_that_is_not_refused(self) -> None:
+        (self.top / "crates/words/further/counts_one_less.edit").write_text("file: src/lib.rt\nold:         self.came\nnew:         self.came + 1\n")
+        failed, said = self.run_gate()
+        self.same("it is named", failed, ["words/counts_one_less: NOT REFUSED"], said)
 
     def test_a_library_that_is_put_back(self) -> None:
         """`rt ci` ends with an earlier library, without a note, in the place of the one that it proved."""
         library = "crates/other/out/rlib"
         with patch.dict(os.environ, {"MEANWHILE": f"sleep 1; rm -r {library}; mkdir -p {library}/other.rlib; touch {library}/other.rlib/format"}):
-            status, said = self.run_gate()
-        self.same("the edit is tried over the one that was proved", (status, len(self.called("rattle "))), (0, 1), said)
+            failed, said = self.run_gate()
+        self.same("the edit is tried over the one that was proved", (failed, len(self.called("rattle "))), ([], 1), said)
 
     def test_what_is_proved(self) -> None:
         for line, names in (

@@ -6,6 +6,7 @@ mod compared;
 mod dates;
 mod entering;
 mod fake;
+mod fetched;
 mod fixture;
 mod lines;
 mod listing;
@@ -13,6 +14,7 @@ mod looks;
 mod operations;
 mod payload;
 mod store;
+mod tapes;
 mod volumes;
 
 use std::process::Abort;

@@ -8,7 +8,6 @@ mod log_lines;
 mod printing;
 mod progress;
 mod refused;
-mod restored;
 mod socket;
 mod startup;
 mod statuses;

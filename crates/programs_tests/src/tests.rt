@@ -3,9 +3,9 @@
 mod checkpoint_files;
 mod commands;
 mod exit_codes;
+mod fetched_stack;
 mod fixture;
 mod memory_peer;
-mod restored_stack;
 
 use std::process::Abort;
 

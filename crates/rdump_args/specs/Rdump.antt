@@ -1,5 +1,5 @@
 -- The limits of the arguments of `rdump`. Public contracts cite it.
-use Rattle.std.specs.Prelude.{◌≡◌, ◌≤◌, ◌<◌, ◌*◌, ℕ, Option, None, Some, IfSome, MatchOption, IsSome, IsTrue, ⊤, length}
+use Rattle.std.specs.Prelude.{◌≡◌, ◌≤◌, ◌<◌, ◌*◌, ℕ, Option, None, Some, IfSome, MatchOption, IsSome, ⊤, length}
 use Rattle.std.specs.Borrow.{Bor}
 use Rattle.std.specs.Duration.{as_nanos}
 use Rattle.std.specs.declared.time.Duration.{Duration}
@@ -11,9 +11,10 @@ use Rattle.rmt_wire.specs.declared.argument.TheConstants.{ARGUMENT_LIMIT}
 use Rattle.rmt_wire.specs.declared.limits.TheConstants.{NUMBER_LIMIT}
 use Rattle.rmt_wire.specs.declared.mtio.TheConstants.{MTNOP}
 use Rattle.rdump_args.specs.declared.rdump_line.RdumpLine.{RdumpLine}
-use Rattle.rdump_args.specs.declared.rdump_line.RdumpLine.TheVariants.{Dump, Read, List, Mt, Dates}
+use Rattle.rdump_args.specs.declared.rdump_line.RdumpLine.TheVariants.{Dump, Read, Fetch, List, Mt, Dates}
 use Rattle.rdump_args.specs.declared.dump_line.DumpLine.{DumpLine}
 use Rattle.rdump_args.specs.declared.read_line.ReadLine.{ReadLine}
+use Rattle.rdump_args.specs.declared.fetch_line.FetchLine.{FetchLine}
 use Rattle.rdump_args.specs.declared.list_line.ListLine.{ListLine}
 use Rattle.rdump_args.specs.declared.list_line.ListedReels.{ListedReels}
 use Rattle.rdump_args.specs.declared.list_line.ListedReels.TheVariants.{Paths, Drive}
@@ -32,9 +33,13 @@ IsLimit seconds limit = MatchOption limit (seconds ≡ 0) (λ time. (0 < seconds
 abbrev pub IsDumpLine : DumpLine → Type 0
 IsDumpLine line = (line.level ≤ ARGUMENT_LIMIT) × (line.block ≤ ARGUMENT_LIMIT) × IfSome line.date (λ n. n ≤ ARGUMENT_LIMIT)
 
--- the length is at most `ARGUMENT_LIMIT`; with `--all` each block is written at its place
+-- a device that a request can name
 abbrev pub IsReadLine : ReadLine → Type 0
-IsReadLine line = IsDevice line.device.now × IfSome line.length (λ n. n ≤ ARGUMENT_LIMIT) × (IsTrue line.all → IsTrue line.place)
+IsReadLine line = IsDevice line.device.now
+
+-- a device that a request can name
+abbrev pub IsFetchLine : FetchLine → Type 0
+IsFetchLine line = IsDevice line.device.now
 
 -- the reels to list are those at the paths, at least one, or those of a drive
 abbrev pub IsListedReels : ListedReels → Type 0
@@ -53,6 +58,7 @@ IsMtLine line = IsDevice line.device.now × (line.op ≤ MTNOP) × (line.count �
 abbrev pub IsRdumpLine : RdumpLine → Type 0
 IsRdumpLine (Dump line) = IsDumpLine line × IsAddress line.to.now
 IsRdumpLine (Read line) = IsReadLine line × IsAddress line.to.now
+IsRdumpLine (Fetch line) = IsFetchLine line × IsAddress line.to.now
 IsRdumpLine (List line) = IsListLine line
 IsRdumpLine (Mt line) = IsMtLine line × IsAddress line.to.now
 IsRdumpLine (Dates file asked) = IsDatesAsked asked

@@ -6,6 +6,7 @@ mod dates_line;
 mod drive;
 mod dump_line;
 mod fault;
+mod fetch_line;
 mod list_line;
 mod mt_line;
 mod rdump_line;
@@ -13,6 +14,7 @@ mod read_line;
 mod timeout;
 
 pub use dump_line::DumpLine;
+pub use fetch_line::FetchLine;
 pub use list_line::{ListLine, ListedReels};
 pub use mt_line::MtLine;
 pub use rdump_line::{RdumpLine, dump_error, rdump_args};

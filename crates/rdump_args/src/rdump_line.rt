@@ -9,6 +9,7 @@ use crate::argument::{ArgumentSpec, args_of, check_given, push_command};
 use crate::dates_line::{DATES_ARGUMENTS, dates_in};
 use crate::dump_line::{DUMP_ARGUMENTS, DumpLine, dump_in};
 use crate::fault::ArgumentFault;
+use crate::fetch_line::{FETCH_ARGUMENTS, FetchLine, fetch_in};
 use crate::list_line::{LIST_ARGUMENTS, ListLine, list_in};
 use crate::mt_line::{MT_ARGUMENTS, MtLine, mt_in};
 use crate::read_line::{READ_ARGUMENTS, ReadLine, read_in};
@@ -24,6 +25,8 @@ pub enum RdumpLine<'a> {
     Dump(DumpLine<'a>),
     /// Read a volume back.
     Read(ReadLine<'a>),
+    /// Copy the reels of a stack into record files.
+    Fetch(FetchLine<'a>),
     /// List what reels contain.
     List(ListLine<'a>),
     /// Do one operation at a drive.
@@ -45,8 +48,8 @@ pub enum RdumpLine<'a> {
 /// - `dump --to ADDRESS --device D [--timeout SECONDS] --fs NAME --level L --payload FILE --block
 ///   BYTES --dumpdates FILE [--date SECONDS] [--checkpoint FILE] [--sums FILE] [--update]
 ///   [--protect]`
-/// - `read --to ADDRESS --device D [--timeout SECONDS] --out FILE [--place] [--all] [--length
-///   BYTES] [--sums FILE]`
+/// - `read --to ADDRESS --device D [--timeout SECONDS] --out FILE`
+/// - `fetch --to ADDRESS --device D [--timeout SECONDS] --into FOLDER [--sums FILE]`
 /// - `ls FILE|FOLDER... [--dumpdates FILE [--blocks N]] [--sums FILE]`
 /// - `ls --to ADDRESS --device D [--timeout SECONDS] [--dumpdates FILE [--blocks N]] [--sums FILE]`
 /// - `mt --to ADDRESS --device D [--timeout SECONDS] OP COUNT`
@@ -56,17 +59,13 @@ pub enum RdumpLine<'a> {
 /// The error's kind says which, and its text is for the user.
 pub fn rdump_args<'a, S: AsStr>(alloc: Global, arguments: &'a [S]) -> Result<RdumpLine<'a>, Error>
     // All these promises are about the arguments that `rdump_args` returns. The arguments of the
-    // commands `dump`, `read` and `mt` contain an address. The arguments of an `ls` that lists a
-    // drive contain an address too. Each of these addresses is valid: `is_address` of the crate
-    // `address` returns true for the address.
+    // commands `dump`, `read`, `fetch` and `mt` contain an address. The arguments of an `ls` that
+    // lists a drive contain an address too. Each of these addresses is valid: `is_address` of the
+    // crate `address` returns true for the address.
     //
     // For `mt`, the operation is one of the eight operations in `rmt_wire::mtio`, and the count is
-    // at most 2147483647. For `mt`, for `read`, and for an `ls` that lists a drive, the device has
-    // 1 to 255 bytes and no line feed.
-    //
-    // For `read`, the length, if given, is at most 9223372036854775807. If the returned arguments
-    // contain `--all`, they also contain `--place`: each block is written at the block's offset in
-    // the dump.
+    // at most 2147483647. For `mt`, `read` and `fetch`, and for an `ls` that lists a drive, the
+    // device has 1 to 255 bytes and no line feed.
     //
     // For `ls`, the arguments name either one or more paths, or a drive, but not both. If the
     // arguments contain a number of blocks, the arguments name a dumpdates file too. The number of
@@ -144,6 +143,7 @@ fn whole_name(name: &str) -> &'static str {
     match name {
         "dump" => "rdump dump",
         "read" => "rdump read",
+        "fetch" => "rdump fetch",
         "ls" => "rdump ls",
         "mt" => "rdump mt",
         "dates" => "rdump dates",
@@ -177,6 +177,7 @@ fn named_in<'a>(
     match name {
         "dump" => dump_in(matches).map(RdumpLine::Dump),
         "read" => read_in(matches).map(RdumpLine::Read),
+        "fetch" => fetch_in(matches).map(RdumpLine::Fetch),
         "ls" => list_in(alloc, matches).map(RdumpLine::List),
         "mt" => mt_in(matches).map(RdumpLine::Mt),
         "dates" => dates_in(matches),
@@ -211,7 +212,7 @@ fn commands<'a>(alloc: Global) -> Result<Vec<Command<'a>>, AllocError> {
 }
 
 /// The names of the commands, and the text of each in the help.
-static COMMANDS: [(&str, &str); 5] = [
+static COMMANDS: [(&str, &str); 6] = [
     (
         "dump",
         "Dump a payload to a remote tape, and ask after each failure whether to retry",
@@ -219,6 +220,10 @@ static COMMANDS: [(&str, &str); 5] = [
     (
         "read",
         "Read a volume of a remote tape: print its label, and write its blocks to a file",
+    ),
+    (
+        "fetch",
+        "Copy the reels of a remote tape into record files, and take each reel to the bin",
     ),
     (
         "ls",
@@ -239,6 +244,7 @@ fn arguments_of(name: &str) -> &'static [ArgumentSpec] {
     match name {
         "dump" => &DUMP_ARGUMENTS,
         "read" => &READ_ARGUMENTS,
+        "fetch" => &FETCH_ARGUMENTS,
         "ls" => &LIST_ARGUMENTS,
         "mt" => &MT_ARGUMENTS,
         "dates" => &DATES_ARGUMENTS,

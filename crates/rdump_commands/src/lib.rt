@@ -1,10 +1,12 @@
-//! The commands of `rdump` dump a payload, read volumes back, list reels, do one operation on a
-//! drive, or query a dumpdates file. Each returns the exit status, and prints what failed.
+//! The commands of `rdump` dump a payload, read a volume back, copy reels, list reels, do one
+//! operation on a drive, or query a dumpdates file. Each returns the exit status, and prints what
+//! failed.
 //!
 //! `rdump` is the whole program, and `run_arguments` does the same for given arguments. Each
 //! command is a function of its own: `run_mt` and `run_dates` of this crate, `run_dump` of
-//! `rdump_dump`, `run_read` of `rdump_read`, and `run_ls` of `rdump_list`. `run_client` is a dump
-//! from its client on. `ClientSystem` is the part of the runtime that they use.
+//! `rdump_dump`, `run_read` and `run_fetch` of `rdump_read`, and `run_ls` of `rdump_list`.
+//! `run_client` is a dump from its client on. `ClientSystem` is the part of the runtime that they
+//! use.
 #![tactic(auto)]
 
 mod dates_command;
@@ -15,5 +17,5 @@ pub use dates_command::run_dates;
 pub use mt_command::run_mt;
 pub use program::{rdump, run_arguments};
 pub use rdump_dump::{run_client, run_dump};
-pub use rdump_read::run_read;
+pub use rdump_read::{run_fetch, run_read};
 pub use rdump_system::ClientSystem;

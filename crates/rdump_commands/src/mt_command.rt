@@ -9,7 +9,8 @@ use printable::{PlainBytes, plain};
 use rdump_args::MtLine;
 use rdump_net::{Peer, SocketPeer, mt};
 use rdump_system::{ClientSystem, may_be_terminal, report_failed, report_unwritten};
-use refusals::{Refusal, RefusedRequest, request_of};
+use refusals::{TapeRequest, request_of};
+use remote_tape::{FaultReport, TapeCause, TapeFault};
 use rmt_wire::{Counted, find_byte};
 use std::io::{self, Write};
 
@@ -27,7 +28,7 @@ pub fn run_mt<R: ClientSystem>(rt: &R, line: MtLine<'_>) -> ExitStatus
     let mut answer = Vec::new(rt.alloc());
     let mut peer = AskedPeer {
         socket: SocketPeer::new(rt, line.to, line.timeout),
-        asked: RefusedRequest::Open,
+        asked: TapeRequest::Open,
     };
     let status = answer_of(rt, line, &mut peer, &mut answer);
     if answer.is_empty() {
@@ -47,7 +48,7 @@ pub fn run_mt<R: ClientSystem>(rt: &R, line: MtLine<'_>) -> ExitStatus
 #[derive(Drop)]
 struct AskedPeer<'a, R: ClientSystem> {
     socket: SocketPeer<'a, R>,
-    asked: RefusedRequest,
+    asked: TapeRequest,
 }
 
 impl<'a, R: ClientSystem> Peer for AskedPeer<'a, R> {
@@ -59,7 +60,7 @@ impl<'a, R: ClientSystem> Peer for AskedPeer<'a, R> {
 
     fn send(&mut self, bytes: &[u8]) -> bool {
         match request_of(bytes) {
-            Some(RefusedRequest::Close) | None => {}
+            Some(TapeRequest::Close) | None => {}
             Some(asked) => self.asked = asked,
         }
         self.socket.send(bytes)
@@ -83,10 +84,17 @@ fn error_number(answer: &[u8]) -> Option<u32> {
 
 /// Prints the error with which the server refused the request `asked`, what it means and what to
 /// do.
-fn report_refused<R: ClientSystem>(rt: &R, line: &MtLine<'_>, asked: RefusedRequest, number: u32) {
+fn report_refused<R: ClientSystem>(rt: &R, line: &MtLine<'_>, asked: TapeRequest, number: u32) {
     let to = plain(line.to);
-    let refusal = Refusal::new(asked, number, line.device);
-    let _ = eprintln!(rt; "rdump: {to}: {asked} refused with E{number}: {refusal}");
+    let report = FaultReport {
+        fault: TapeFault {
+            request: asked,
+            cause: TapeCause::Refused(number),
+        },
+        device: line.device,
+        failure: None,
+    };
+    let _ = eprintln!(rt; "rdump: {to}: {report}");
 }
 
 /// Prints a reply of one line.

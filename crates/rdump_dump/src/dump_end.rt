@@ -24,7 +24,7 @@ pub(crate) fn report_end<R: ClientSystem, B: Blocks>(
     let bytes = start.bytes;
     let (to, device) = (ShellWord(line.to), ShellWord(line.device));
     let _ = eprintln!(rt;
-        "to restore: {blocks} blocks, {bytes} bytes: rdump read --to {to} --device {device} --out FILE --all --place --length {bytes}"
+        "to restore: {blocks} blocks, {bytes} bytes: rdump fetch --to {to} --device {device} --into FOLDER"
     );
     if let Some(look) = &start.look {
         report_change(rt, line.payload, look);

@@ -6,12 +6,10 @@ use crate::shell_word::OfflineCommand;
 use dump_run::VolumeLabel;
 use printable::plain;
 use rdump_args::DumpLine;
-use rdump_net::{
-    CallFault, LookFault, LookRequest, Peer, Protection, ReelFront, SocketPeer, find_protection,
-    look_at_reel,
-};
+use rdump_net::{Peer, Protection, ReelFront, SocketPeer, find_protection, look_at_reel};
 use rdump_system::ClientSystem;
-use refusals::{Refusal, RefusedRequest};
+use refusals::Refusal;
+use remote_tape::{CallFault, FaultReport, TapeCause, TapeFault};
 use rmt_wire::argument::is_device;
 use std::io;
 
@@ -21,7 +19,7 @@ pub(crate) enum AttemptRefusal {
     /// The reel begins like this, and is not of this dump.
     Protected(ReelFront, Protection),
     /// The look failed.
-    Failed(LookFault),
+    Failed(TapeFault),
 }
 
 /// Looks at the first reel of the drive that `line` names, over a connection of its own. Returns
@@ -35,7 +33,7 @@ pub(crate) fn find_obstacle<R: ClientSystem>(
     let device = line.device.as_bytes();
     if !is_device(device) {
         // A run has no such device, so this never happens. Without a look, no attempt is made.
-        return Some(AttemptRefusal::Failed(LookFault::NoReply(CallFault::Botched)));
+        return Some(AttemptRefusal::Failed(TapeFault::unopened(CallFault::Botched)));
     }
     match look_at_reel(rt.alloc(), peer, device) {
         Ok(front) => protection_of(line, front),
@@ -124,34 +122,26 @@ fn label_of(front: &ReelFront) -> Option<VolumeLabel> {
 /// Prints why the look at the reel failed. `fault` is how it failed. `failure` is the
 /// system's error, if the connection of the look failed with one; it is printed in place of a fault
 /// that says only that the connection ended.
-fn report_failed_look<R: Eprint>(
+fn report_failed_look<'a, R: Eprint>(
     rt: &R,
-    line: &DumpLine<'_>,
-    fault: LookFault,
-    failure: Option<&io::Error>,
+    line: &DumpLine<'a>,
+    fault: TapeFault,
+    failure: Option<&'a io::Error>,
 ) {
-    let address = plain(line.to);
-    let _ = match (fault, failure) {
-        (LookFault::Refused { asked, number }, _) => {
-            let refusal = Refusal::new(request_named(asked), number, line.device);
+    let (address, device) = (plain(line.to), line.device);
+    let _ = match fault.cause {
+        TapeCause::Refused(number) => {
+            let asked = fault.request;
+            let refusal = Refusal::new(asked, number, device);
             eprintln!(rt; "rdump: {address}: the look failed: {asked}: Refused {number}: {refusal}")
         }
-        (LookFault::NoReply(CallFault::ConnectionEnded), Some(error)) => {
-            eprintln!(rt; "rdump: {address}: the look failed: {error}")
-        }
-        (LookFault::NoReply(fault), _) => {
-            eprintln!(rt; "rdump: {address}: the look failed: {fault}")
+        TapeCause::NoReply(_) => {
+            let report = FaultReport {
+                fault,
+                device,
+                failure,
+            };
+            eprintln!(rt; "rdump: {address}: the look failed: {report}")
         }
     };
-}
-
-/// Returns the request of a look that a server may refuse.
-fn request_named(asked: LookRequest) -> RefusedRequest {
-    match asked {
-        LookRequest::Open => RefusedRequest::Open,
-        LookRequest::Rewind => RefusedRequest::Rewind,
-        LookRequest::Read => RefusedRequest::Read,
-        LookRequest::Space => RefusedRequest::Space,
-        LookRequest::Close => RefusedRequest::Close,
-    }
 }

@@ -12,9 +12,10 @@ use jiff::civil::Date;
 use jiff::tz::TimeZone;
 use printable::{CLEAR, plain};
 use rdump_args::DumpLine;
-use rdump_net::{Peer, ReadFault, SocketPeer};
+use rdump_net::{Peer, SocketPeer};
 use rdump_system::ClientSystem;
-use refusals::{Refusal, RefusedRequest, request_of};
+use refusals::{Refusal, TapeRequest, request_of};
+use remote_tape::CallFault;
 use std::io::{self, Write};
 use tape::{LENGTH_BYTES, entry_size};
 
@@ -36,7 +37,7 @@ pub(crate) struct ReportingPeer<'a, R: ClientSystem, T> {
     socket: SocketPeer<'a, R>,
     looks: SocketPeer<'a, R>,
     terminal: Option<T>,
-    asked: RefusedRequest,
+    asked: TapeRequest,
 }
 
 impl<'a, R: ClientSystem, T: Write> ReportingPeer<'a, R, T> {
@@ -49,7 +50,7 @@ impl<'a, R: ClientSystem, T: Write> ReportingPeer<'a, R, T> {
             socket: SocketPeer::new(rt, line.to, line.timeout),
             looks: SocketPeer::new(rt, line.to, line.timeout),
             terminal,
-            asked: RefusedRequest::Open,
+            asked: TapeRequest::Open,
         }
     }
 
@@ -152,7 +153,7 @@ fn report_ended<R: Eprint>(rt: &R, address: &str, failure: Option<&io::Error>) {
 
 /// Prints the error with which the server refused the request `asked`, what it means and what to
 /// do.
-fn report_refused<R: Eprint>(rt: &R, line: &DumpLine<'_>, asked: RefusedRequest, number: u32) {
+fn report_refused<R: Eprint>(rt: &R, line: &DumpLine<'_>, asked: TapeRequest, number: u32) {
     let address = plain(line.to);
     let refusal = Refusal::new(asked, number, line.device);
     let _ = eprintln!(rt; "rdump: {address}: Refused {number}: {refusal}");
@@ -172,7 +173,7 @@ fn report_counted<R: Eprint>(rt: &R, line: &DumpLine<'_>, volume: u32) {
 /// Prints that what was received from an address is not a reply.
 fn report_botched<R: Eprint>(rt: &R, address: &str) {
     let address = plain(address);
-    let fault = ReadFault::Botched;
+    let fault = CallFault::Botched;
     let _ = eprintln!(rt; "rdump: {address}: {fault}");
 }
 

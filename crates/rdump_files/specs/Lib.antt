@@ -1,16 +1,10 @@
 -- In reading order, each by itself: Payload (the payload and its run); ResumedDump (a dump that is
 -- resumed); Dates (the dumpdates file); WholeFile, Updating (entering a dump in it). Then Entering
--- (once the dump is complete); Left (what an interrupted run leaves). RestoredFile, then FileSink
--- (volumes that are read back into a file).
+-- (once the dump is complete); Left (what an interrupted run leaves).
 pub mod ResumedDump
 pub mod Dates
 pub mod Entering
-pub mod FileSink
 pub mod Left
 pub mod Payload
-pub mod Restored
-pub mod RestoredFile
-pub mod RestoredStack
-pub mod SinkLends
 pub mod Updating
 pub mod WholeFile

@@ -10,20 +10,7 @@
 //! whether it changed. `is_left_dates` and `is_left_checkpoint` recognize the unfinished files that
 //! an interrupted run leaves.
 //!
-//! `FileSink` writes the volumes of a dump that are read back to a file, which is any
-//! `RestoredFile`: each block at its place, or one after the other. `MemoryFile` is such a file in
-//! memory. `Found` is what the sink makes of the first record of a volume, `SinkFault` why it
-//! stopped, and `BlockSizes` how many blocks it wrote. `restored_volumes`, `appended_volumes` and
-//! `restored_bytes` are laws of what is then in the file.
-//!
 //! # Contracts
-//!
-//! A *sink* receives a volume that is read from a reel (see `rdump_net`): first the label, and then
-//! the blocks. The sink *accepts* the label and each block, or it stops the read. At the end of the
-//! volume, the sink is asked to *complete* the volume: to confirm that the sink has kept the
-//! volume. `FileSink` is a sink that writes to a file. A sink *with places* writes each block at
-//! its *place*: the offset that the block has in the dump. A sink *without places* appends each
-//! block to the file.
 //!
 //! A `ReplacedFile` is a file in the file system. To replace the file, `ReplacedFile` writes a *new
 //! file* in the same folder, and then renames the new file to the name of the old file. The
@@ -31,13 +18,11 @@
 //! and *stage*.
 #![tactic(auto)]
 
-mod block_sizes;
 mod ctime;
 mod dates_file;
 mod dates_update;
 mod dump_files;
 mod dump_update;
-mod file_sink;
 mod files;
 mod left;
 mod named;
@@ -47,20 +32,14 @@ mod payload_file;
 mod payload_look;
 mod progress;
 mod replaced_file;
-mod restored_file;
-mod restored_laws;
-mod restored_stack;
 mod resumed_dump;
-mod sink_fault;
 mod whole_file;
 
-pub use block_sizes::BlockSizes;
 pub use ctime::date_text;
 pub use dates_file::{base_date, dates};
 pub use dates_update::{UpdateFault, update};
 pub use dump_files::{DumpFile, DumpFiles, SameFile};
 pub use dump_update::{DumpEnd, dump_and_update, enter_dump};
-pub use file_sink::FileSink;
 pub use files::{check_plain, read_or_empty, read_steady, seconds_now};
 pub use left::{is_left_checkpoint, is_left_dates};
 pub use named::named_file;
@@ -69,9 +48,5 @@ pub use payload_file::PayloadFile;
 pub use payload_look::{PayloadChange, PayloadLook, open_payload};
 pub use progress::{Clearing, Gauge, ProgressLine, Shown};
 pub use replaced_file::ReplacedFile;
-pub use restored_file::{MemoryFile, RestoredFile};
-pub use restored_laws::{appended_volumes, restored_bytes, restored_volumes};
-pub use restored_stack::restore_stack;
 pub use resumed_dump::{ResumedDumpFault, resume_dump};
-pub use sink_fault::{Found, SinkFault};
 pub use whole_file::{FileFailed, WholeFile};

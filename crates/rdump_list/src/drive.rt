@@ -6,11 +6,11 @@ use crate::drive_reel::{DriveEntries, DriveReel, read_drive};
 use crate::reel::{ListedReel, Source};
 use crate::sums::compare;
 use printable::plain;
-use rdump_net::{ReadFault, SocketPeer, VolumeRequest};
+use rdump_net::SocketPeer;
 use reel_check::ReelContents;
-use refusals::{Refusal, RefusedRequest};
+use remote_tape::{CallFault, FaultReport, TapeCause, TapeFault};
 use std::alloc::AllocError;
-use std::io::Write;
+use std::io::{self, Write};
 use std::time::Duration;
 use sum_lines::Sums;
 
@@ -37,12 +37,32 @@ pub(crate) fn drive_reel<R: ListSystem, T: Write + Drop>(
             let source = Source::Undetermined(why);
             Ok(Some(reel_of(rt, device, entries, None, source)?))
         }
-        Err(ReadFault::OutOfMemory) => Err(AllocError),
         Err(fault) => {
-            report_fault(rt, to, device, fault, &peer);
+            if fault.cause == TapeCause::NoReply(CallFault::OutOfMemory) {
+                return Err(AllocError);
+            }
+            report_fault(rt, to, device, fault, peer.failure());
             Ok(None)
         }
     }
+}
+
+/// Prints why there is no session with the server at the address `to`. `failure` is the system's
+/// error, if the connection failed with one.
+fn report_fault<'a, R: ListSystem>(
+    rt: &R,
+    to: &str,
+    device: &'a str,
+    fault: TapeFault,
+    failure: Option<&'a io::Error>,
+) {
+    let report = FaultReport {
+        fault,
+        device,
+        failure,
+    };
+    let to = plain(to);
+    let _ = eprintln!(rt; "rdump: {to}: {report}");
 }
 
 /// Makes the listed reel of this drive from its entries, and compares it with `sums`, if given.
@@ -72,30 +92,4 @@ fn reel_of<R: ListSystem>(
         source,
         sum,
     })
-}
-
-/// Prints why there is no session with the server at the address `to`, with the system's reason if
-/// there is one. After a refused open also prints what that means for this drive.
-fn report_fault<R: ListSystem>(
-    rt: &R,
-    to: &str,
-    device: &str,
-    fault: ReadFault,
-    peer: &SocketPeer<'_, R>,
-) {
-    let to = plain(to);
-    let _ = match (fault, peer.failure()) {
-        (ReadFault::ConnectionEnded, Some(error)) => eprintln!(rt; "rdump: {to}: {error}"),
-        (
-            ReadFault::Refused {
-                asked: VolumeRequest::Open,
-                number,
-            },
-            _,
-        ) => {
-            let refusal = Refusal::new(RefusedRequest::Open, number, device);
-            eprintln!(rt; "rdump: {to}: {fault}: {refusal}")
-        }
-        _ => eprintln!(rt; "rdump: {to}: {fault}"),
-    };
 }

@@ -8,17 +8,20 @@ ghost use Rattle.rmt_wire.specs.Number.{IsLine};
 
 use crate::ListSystem;
 use crate::progress::ListProgress;
-use crate::spacing::{ReadStop, can_space, next_record, rewind, space};
 use crate::undetermined::Undetermined;
-use rdump_net::{KeptReply, Peer, PeerCaller, ReadFault, VolumeRequest};
 use reel_check::{Holding, ReelTally};
+use remote_tape::{CallFault, MarkSearch, Peer, RemoteTape, TapeCause, TapeFault, find_mark};
+use rmt_wire::RECORD_LIMIT;
+use rmt_wire::errno::EIO;
 use rmt_wire::fcntl::O_RDONLY;
-use rmt_wire::mtio::{MTBSF, MTBSR, MTFSF, MTFSR};
-use rmt_wire::{NUMBER_LIMIT, Request};
+use rmt_wire::mtio::{MTBSF, MTBSR, MTFSF};
 use std::alloc::Global;
 use std::io::Write;
 use tape::is_record;
 use volume_sum::EntryHasher;
+
+/// The longest record that is read.
+const LONGEST: u32 = RECORD_LIMIT as u32;
 
 /// What was read of a drive's reel, and what shows that on a terminal, if there is one.
 #[derive(Drop)]
@@ -107,8 +110,8 @@ impl<'a, R: ListSystem, T: Write + Drop> DriveReel<'a, R, T> {
 /// Reads the first reel on the stack of this drive, over a connection of its own, and adds its
 /// entries to `reel`.
 ///
-/// Returns why the reel's contents could not be determined, if so. Fails if an allocation fails,
-/// the connection cannot be made or ends, the open is refused, or the bytes that come are no reply.
+/// Returns why the reel's contents could not be determined, if so. Fails if the connection cannot
+/// be made, the open is refused, or a request gets no reply. Then nothing more is sent.
 ///
 /// The device is one line of at most `LINE_LIMIT` bytes.
 pub(crate) fn read_drive<P: Peer, R: ListSystem, T: Write + Drop>(
@@ -116,153 +119,137 @@ pub(crate) fn read_drive<P: Peer, R: ListSystem, T: Write + Drop>(
     peer: &mut P,
     device: &[u8],
     reel: &mut DriveReel<'_, R, T>,
-) -> Result<Option<Undetermined>, ReadFault>
+) -> Result<Option<Undetermined>, TapeFault>
     requires { IsLine device.now }
 {
-    let Ok(mut caller) = PeerCaller::new(alloc) else {
-        return Err(ReadFault::OutOfMemory);
+    let Ok(mut tape) = RemoteTape::new(alloc) else {
+        return Err(TapeFault::unopened(CallFault::OutOfMemory));
     };
     if !peer.connect() {
-        return Err(ReadFault::ConnectionEnded);
+        return Err(TapeFault::unopened(CallFault::ConnectionEnded));
     }
-    let told = read_open(&mut caller, peer, device, reel);
+    let told = read_open(&mut tape, peer, device, reel);
     peer.hang_up();
-    match told {
-        Ok(()) => Ok(None),
-        Err(ReadStop::Undetermined(why)) => Ok(Some(why)),
-        Err(ReadStop::Fault(fault)) => Err(fault),
-    }
-}
-
-/// Opens the drive, reads its reel, and closes it. It ignores the reply to the close.
-fn read_open<P: Peer, R: ListSystem, T: Write + Drop>(
-    caller: &mut PeerCaller,
-    peer: &mut P,
-    device: &[u8],
-    reel: &mut DriveReel<'_, R, T>,
-) -> Result<(), ReadStop>
-    requires { IsLine device.now }
-{
-    open(caller, peer, device)?;
-    let told = read_reel(caller, peer, reel);
-    let _ = caller.call(peer, &Request::Close);
     told
 }
 
-/// Opens the drive for reading.
-fn open<P: Peer>(caller: &mut PeerCaller, peer: &mut P, device: &[u8]) -> Result<(), ReadFault>
+/// Opens the drive, reads its reel, and closes it. It ignores the reply to the close. A refusal
+/// after the open means that the reel's contents cannot be determined.
+fn read_open<P: Peer, R: ListSystem, T: Write + Drop>(
+    tape: &mut RemoteTape,
+    peer: &mut P,
+    device: &[u8],
+    reel: &mut DriveReel<'_, R, T>,
+) -> Result<Option<Undetermined>, TapeFault>
     requires { IsLine device.now }
 {
-    let open = Request::Open {
-        device,
-        mode: O_RDONLY,
+    tape.open(peer, device, O_RDONLY)?;
+    let told = match read_reel(tape, peer, reel) {
+        Ok(told) => told,
+        Err(TapeFault { request, cause }) => match cause {
+            TapeCause::Refused(number) => Some(Undetermined::Refused { request, number }),
+            TapeCause::NoReply(_) => return Err(TapeFault { request, cause }),
+        },
     };
-    let reply = caller.call(peer, &open)?;
-    match reply {
-        KeptReply::Done { .. } => Ok(()),
-        KeptReply::Error { number, .. } => Err(ReadFault::Refused {
-            asked: VolumeRequest::Open,
-            number,
-        }),
-        KeptReply::Data { .. } => Err(ReadFault::Botched),
-    }
+    let _ = tape.close(peer);
+    Ok(told)
 }
 
-/// Reads the reel of the opened drive, and adds its entries to `reel`.
+/// Reads the reel of the opened drive, and adds its entries to `reel`. Returns why the contents
+/// could not be determined, if so.
 fn read_reel<P: Peer, R: ListSystem, T: Write + Drop>(
-    caller: &mut PeerCaller,
+    tape: &mut RemoteTape,
     peer: &mut P,
     reel: &mut DriveReel<'_, R, T>,
-) -> Result<(), ReadStop> {
-    rewind(caller, peer)?;
-    read_records(caller, peer, reel)?;
+) -> Result<Option<Undetermined>, TapeFault> {
+    tape.rewind(peer)?;
+    if !read_records(tape, peer, reel)? {
+        return Ok(Some(Undetermined::TooManyRecords));
+    }
     match reel.tally().holding() {
-        Holding::Foreign => Ok(()),
-        Holding::Empty => look_for_mark(caller, peer, reel),
-        Holding::Volume(_) => look_after(caller, peer, reel),
+        Holding::Foreign => Ok(None),
+        Holding::Empty => look_for_mark(tape, peer, reel),
+        Holding::Volume(_) => look_after(tape, peer, reel),
     }
 }
 
 /// Reads record after record until a read returns nothing, or until the records are no volume.
+/// Returns false if neither comes.
 fn read_records<P: Peer, R: ListSystem, T: Write + Drop>(
-    caller: &mut PeerCaller,
+    tape: &mut RemoteTape,
     peer: &mut P,
     reel: &mut DriveReel<'_, R, T>,
-) -> Result<(), ReadStop> {
+) -> Result<bool, TapeFault> {
     for _ in 0..u64::MAX {
-        let record = next_record(caller, peer)?;
+        let record = tape.read(peer, LONGEST)?;
         if record.is_empty() {
-            return Ok(());
+            return Ok(true);
         }
-        reel.record(&record);
+        reel.record(record);
         if matches!(reel.tally().holding(), Holding::Foreign) {
-            return Ok(());
+            return Ok(true);
         }
     }
-    Err(ReadStop::Undetermined(Undetermined::TooManyRecords))
+    Ok(false)
 }
 
 /// Looks for a mark at the beginning, after the first read returned nothing. If spacing over one is
 /// refused, the reel may be empty.
 fn look_for_mark<P: Peer, R: ListSystem, T: Write + Drop>(
-    caller: &mut PeerCaller,
+    tape: &mut RemoteTape,
     peer: &mut P,
     reel: &mut DriveReel<'_, R, T>,
-) -> Result<(), ReadStop> {
-    rewind(caller, peer)?;
-    if !can_space(caller, peer, MTFSF)? {
-        return Err(ReadStop::Undetermined(Undetermined::NoRecord));
+) -> Result<Option<Undetermined>, TapeFault> {
+    tape.rewind(peer)?;
+    match tape.space(peer, MTFSF, 1) {
+        Ok(()) => {
+            reel.mark();
+            Ok(None)
+        }
+        Err(fault) => match fault.cause {
+            TapeCause::Refused(_) => Ok(Some(Undetermined::NoRecord)),
+            TapeCause::NoReply(_) => Err(fault),
+        },
     }
-    reel.mark();
-    Ok(())
 }
 
-/// Looks for what follows the last record, after a read returned nothing. If a record is right
-/// before this place, that read met the end.
+/// Looks for what follows the last record, after a read returned nothing.
 fn look_after<P: Peer, R: ListSystem, T: Write + Drop>(
-    caller: &mut PeerCaller,
+    tape: &mut RemoteTape,
     peer: &mut P,
     reel: &mut DriveReel<'_, R, T>,
-) -> Result<(), ReadStop> {
-    if can_space(caller, peer, MTBSR)? {
-        return Ok(());
+) -> Result<Option<Undetermined>, TapeFault> {
+    match find_mark(tape, peer, reel.tally().records())? {
+        MarkSearch::Found => reel.mark(),
+        MarkSearch::Missing => return Ok(None),
+        MarkSearch::Refused { request, number } => {
+            return Ok(Some(Undetermined::Refused { request, number }));
+        }
+        MarkSearch::TooManyRecords => return Ok(Some(Undetermined::TooManyRecords)),
     }
-    go_after_mark(caller, peer, reel.tally().records())?;
-    reel.mark();
-    let record = next_record(caller, peer)?;
+    let record = tape.read(peer, LONGEST)?;
     if !record.is_empty() {
-        reel.record(&record);
-        return Ok(());
-    }
-    if has_second_mark(caller, peer)? {
+        reel.record(record);
+    } else if has_second_mark(tape, peer)? {
         reel.mark();
     }
-    Ok(())
-}
-
-/// Moves to the place right after the mark that follows this many records.
-fn go_after_mark<P: Peer>(
-    caller: &mut PeerCaller,
-    peer: &mut P,
-    records: u64,
-) -> Result<(), ReadStop> {
-    rewind(caller, peer)?;
-    if records > u64::from(NUMBER_LIMIT) {
-        return Err(ReadStop::Undetermined(Undetermined::TooManyRecords));
-    }
-    space(caller, peer, MTFSR, records as u32)?;
-    space(caller, peer, MTFSF, 1)
+    Ok(None)
 }
 
 /// Whether the read right after the first mark, which returned nothing, passed a second one. If a
 /// record is right before the place that spacing back over one mark leads to, there is no second
 /// mark.
-fn has_second_mark<P: Peer>(caller: &mut PeerCaller, peer: &mut P) -> Result<bool, ReadStop> {
-    space(caller, peer, MTBSF, 1)?;
-    if can_space(caller, peer, MTBSR)? {
-        return Ok(false);
+fn has_second_mark<P: Peer>(tape: &mut RemoteTape, peer: &mut P) -> Result<bool, TapeFault> {
+    tape.space(peer, MTBSF, 1)?;
+    match tape.space(peer, MTBSR, 1) {
+        Ok(()) => Ok(false),
+        Err(fault) => {
+            if !fault.cause.is_refused_with(EIO) {
+                return Err(fault);
+            }
+            tape.rewind(peer)?;
+            tape.space(peer, MTFSF, 2)?;
+            Ok(true)
+        }
     }
-    rewind(caller, peer)?;
-    space(caller, peer, MTFSF, 2)?;
-    Ok(true)
 }

@@ -32,7 +32,6 @@ mod printer;
 mod progress;
 mod reel;
 mod shown_medium;
-mod spacing;
 mod status;
 mod sums;
 mod system;

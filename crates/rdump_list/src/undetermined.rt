@@ -1,17 +1,7 @@
 //! Why the contents of a reel could not be determined.
 use crate::verdict::push_count;
+use remote_tape::TapeRequest;
 use std::alloc::AllocError;
-
-/// A request to a drive.
-#[derive(Clone, Copy)]
-pub(crate) enum DriveRequest {
-    /// The rewind.
-    Rewind,
-    /// The read of a record.
-    Read,
-    /// The spacing over records or marks.
-    Spacing,
-}
 
 /// Why the contents of a reel could not be determined.
 #[derive(Clone, Copy)]
@@ -20,7 +10,7 @@ pub(crate) enum Undetermined {
     /// device may have failed.
     NoRecord,
     /// The reply to a request was this error, which may be a fault of the device.
-    Refused { asked: DriveRequest, number: u32 },
+    Refused { request: TapeRequest, number: u32 },
     /// The reel has more records than one request can space over.
     TooManyRecords,
     /// The reel has more marks in a row than any reel of a drive.
@@ -35,8 +25,8 @@ impl Undetermined {
             Undetermined::NoRecord => {
                 text.extend_from_slice(b"no record is read, and spacing is refused")
             }
-            Undetermined::Refused { asked, number } => {
-                text.extend_from_slice(request_name(asked))?;
+            Undetermined::Refused { request, number } => {
+                text.extend_from_slice(request_name(request))?;
                 push_count(text, b" was answered with E", u64::from(number), b"")
             }
             Undetermined::TooManyRecords => text.extend_from_slice(b"it has too many records"),
@@ -46,10 +36,10 @@ impl Undetermined {
 }
 
 /// Returns the name of a request for the line.
-fn request_name(asked: DriveRequest) -> &'static [u8] {
-    match asked {
-        DriveRequest::Rewind => b"the rewind",
-        DriveRequest::Read => b"a read",
-        DriveRequest::Spacing => b"spacing",
+fn request_name(request: TapeRequest) -> &'static [u8] {
+    match request {
+        TapeRequest::Rewind => b"the rewind",
+        TapeRequest::Read => b"a read",
+        _ => b"spacing",
     }
 }

@@ -1,10 +1,7 @@
-pub mod Basics
 pub mod Words
 pub mod Printed
 pub mod Talking
 pub mod Growing
-pub mod Heard
-pub mod Calls
 pub mod Operating
 pub mod Reading
 pub mod Marks

@@ -1,18 +1,10 @@
 -- What comes after the records of a volume: the look for the mark, the reel that is taken away, and the close.
-use Rattle.rdump_net.proofs.Words.{◌≡◌, ◌≢◌, ◌⊎◌, ℕ, List, [], ◌∷◌, ◌++◌, true, false, Bool, Option, Some, None, Result, Ok, Err, refl, sym, ap, subst, ◌∙◌, if◌then◌else◌, append-nil, append_assoc, arith, MTBSR, MTFSF, MTOFFL, PlainReply, Done, Error, PlainRequest, Close, Op, plain_kept, plain_result, IsCalled, Stops, Extends, sink_ends, sink_kind, SinkCall, Takes, Mark, Complete, nothing, accepted, next_end, next_close, next_over, next_back, next_mark, records_of, ReadFails, ReadEnds, is_whole, HasReply, IsMarkFound, IsEndKnown, IsUnmarked, IsBeginningOf, GoesOnBy, CallSteps, IsDone, IsDoneNext, HasSoughtMark, IsTakenAway, Concludes, HasConcluded, unasked, KeptReply, CallFault, ReadFault, NoMark, Undetermined, Passed, AfterVolume, Stay, Check, Offline}
+use Rattle.rdump_net.proofs.Words.{◌≡◌, ◌≢◌, ◌⊎◌, ℕ, List, [], ◌∷◌, ◌++◌, true, false, Bool, Option, Some, None, Result, Ok, Err, refl, sym, ap, subst, ◌∙◌, if◌then◌else◌, append_assoc, arith, MTFSF, MTOFFL, PlainReply, Done, Error, PlainRequest, Close, Op, IsCalled, Stops, Extends, HasCause, IsAsked, TapeCause, TapeFault, NoReply, Refused, sink_ends, sink_kind, SinkCall, Takes, Mark, Complete, nothing, accepted, next_end, next_close, next_back, next_mark, records_of, ReadFails, ReadEnds, is_whole, HasReply, IsMarkFound, IsEndKnown, IsUnmarked, IsBeginningOf, GoesOnBy, CallSteps, IsDone, IsDoneNext, IsTakenAway, Concludes, HasConcluded, unasked, CallFault, ReadFault, NoMark, Undetermined, Passed, AfterVolume, Stay, Check, Offline}
 use Rattle.rdump_net.specs.Reading.IsEnding.{accepted as has_completed}
-use Rattle.rdump_net.specs.declared.kept_reply.KeptReply.TheVariants as kept
-use Rattle.rdump_net.specs.Reading.{StopsTheSearch}
-use Rattle.rdump_net.proofs.Calls.{went_on, reply_extends, call_finishes, extends_both}
-use Rattle.rdump_net.proofs.Reading.{records_same, breaks_after, no_data, beginning_same, beginning_both}
-
--- what is asked where nothing more was answered, and once this was
-pub on_first : (next : List PlainReply → Option PlainRequest) {step : List PlainReply → Option PlainRequest} {replies : List PlainReply} → GoesOnBy next step replies → next replies ≡ step []
-on_first next {step} {replies} at = ap next (sym (append-nil replies)) ∙ at []
-
-on_after : (next step : List PlainReply → Option PlainRequest) (replies : List PlainReply) (reply : PlainReply) → GoesOnBy next step replies
-    → GoesOnBy next (λ ends. step (reply ∷ ends)) (replies ++ reply ∷ [])
-on_after next step replies reply at = λ ends. ap next (append_assoc replies (reply ∷ []) ends) ∙ at (reply ∷ ends)
+use Rattle.refusals.specs.declared.request.TapeRequest.TheVariants as asked
+use Rattle.rmt_wire.specs.declared.mtio.TheConstants.{MTBSR}
+use Rattle.remote_tape.proofs.Calls.{went_on, reply_extends, call_finishes, extends_both}
+use Rattle.remote_tape.proofs.Searching.{records_same, beginning_same, beginning_both, on_first, on_after}
 
 -- what was replied stays so
 reply_more : (next : List PlainReply → Option PlainRequest) (replies more : List PlainReply) (request : PlainRequest) (reply : PlainReply) → HasReply next replies request reply → HasReply next (replies ++ more) request reply
@@ -44,33 +36,6 @@ unmarked_fails next replies Undetermined h = (refl, λ closing passed stops. (cl
 unmarked_fails next replies fault h = absurd h
 
 module _ {P : Type 0} {next : List PlainReply → Option PlainRequest} {tells : P → List Passed → Type 0} where
-  -- calls, and then a look
-  looked_after : (at_mark : List PlainReply → Option PlainRequest) {p q : P} (r : P) {a b : List PlainReply} (result : Result (Option ReadFault) ReadFault) → Extends next tells p q a b → records_of b ≡ records_of a → IsBeginningOf a b
-      → HasSoughtMark next at_mark tells q r b result → HasSoughtMark next at_mark tells p r a result
-  looked_after at_mark r (Ok None) x same on y = (y.0, extends_both x y.1, y.2 ∙ same, y.3, y.4)
-  looked_after at_mark r (Ok (Some fault)) x same on y = (y.0, extends_both x y.1, y.2 ∙ same, y.3, y.4)
-  looked_after at_mark r (Err fault) x same on y = (y.0, breaks_after x y.1, y.2 ∙ same, y.3, beginning_both _ _ y.0 on y.4)
-
-  -- the answer to a step of the look stops it, and the close comes
-  pub look_given_up : {p q : P} {replies : List PlainReply} {request : PlainRequest} (at_mark step : List PlainReply → Option PlainRequest) (reply : PlainReply) → StopsTheSearch request reply → records_of (reply ∷ []) ≡ []
-      → step [] ≡ Some request → ((ends : List PlainReply) → step (reply ∷ ends) ≡ next_close ends) → GoesOnBy next step replies → IsCalled tells request (Ok reply) p q
-      → HasSoughtMark next at_mark tells p q replies (Ok (Some Undetermined))
-  look_given_up {replies = replies} {request} at_mark step reply stops none asks turns at h =
-      let closes : GoesOnBy next next_close (replies ++ reply ∷ []) = λ ends. on_after next step replies reply at ends ∙ turns ends in
-      let asked = on_first next at ∙ asks in
-      (replies ++ reply ∷ [], reply_extends reply asked h, records_same replies (reply ∷ []) none, closes, (request, reply, replies, [], refl, asked, on_first next closes, stops))
-
-  module _ {p q : P} {replies : List PlainReply} {k : ℕ} (at_mark : List PlainReply → Option PlainRequest) where
-    -- back over a record is done: there is no mark
-    pub look_missing : (n : ℕ) → GoesOnBy next (next_back at_mark n) replies → IsCalled tells (Op MTBSR 1) (Ok (Done k)) p q → HasSoughtMark next at_mark tells p q replies (Ok (Some NoMark))
-    look_missing n at h =
-        (replies ++ Done k ∷ [], reply_extends (Done k) (on_first next at) h, records_same replies (Done k ∷ []) refl, on_after next (next_back at_mark n) replies (Done k) at, (k, (replies, [], refl, on_first next at)))
-
-    -- over the mark is done
-    pub look_found : GoesOnBy next (next_over at_mark) replies → IsCalled tells (Op MTFSF 1) (Ok (Done k)) p q → HasSoughtMark next at_mark tells p q replies (Ok None)
-    look_found at h =
-        (replies ++ Done k ∷ [], reply_extends (Done k) (on_first next at) h, records_same replies (Done k ∷ []) refl, on_after next (next_over at_mark) replies (Done k) at, (k, (replies, [], refl, on_first next at)))
-
   -- how the calls conclude
   pub concludes_failed : {goes : AfterVolume} {end : List SinkCall} {p q : P} {replies : List PlainReply} {fault : ReadFault} → CallSteps next tells p q replies (Err fault) → Concludes next goes end tells p q replies (Err fault)
   concludes_failed {end = end} {fault = fault} x =
@@ -100,34 +65,35 @@ module _ {P : Type 0} {next : List PlainReply → Option PlainRequest} {tells : 
       record { later = y.later; more = all.0; logs = all.1; same = y.same ∙ records_same replies w.0 w.2; adds = goes_on y.later (w.0, refl) y.adds; whole = y.whole; ends = all.2 }
 
   -- no mark is known to be there, and then the close comes, whatever its answer
-  pub closed_unmarked : {goes : AfterVolume} {p q : P} {replies : List PlainReply} {fault : ReadFault} (result : Result KeptReply CallFault) → GoesOnBy next next_close replies → IsUnmarked next replies fault
-      → IsCalled tells Close (plain_result result) p q → Concludes next goes [] tells p q replies (Err fault)
-  closed_unmarked (Ok (kept.Data bytes)) at h called = absurd (no_data Close bytes.items called.0 refl called.1)
-  closed_unmarked {replies = replies} {fault} (Ok answer) at h called =
-      let x = reply_extends {tells = tells} (plain_kept answer) (on_first next at) called in
-      let fails = unmarked_fails next (replies ++ plain_kept answer ∷ []) fault (unmarked_more next replies (plain_kept answer ∷ []) fault h) in
+  closed_by : {goes : AfterVolume} {p q : P} {replies : List PlainReply} {fault : ReadFault} (reply : PlainReply) → records_of (reply ∷ []) ≡ [] → GoesOnBy next next_close replies → IsUnmarked next replies fault
+      → IsCalled tells Close (Ok reply) p q → Concludes next goes [] tells p q replies (Err fault)
+  closed_by {replies = replies} {fault} reply none at h called =
+      let x = reply_extends {tells = tells} reply (on_first next at) called in
+      let fails = unmarked_fails next (replies ++ reply ∷ []) fault (unmarked_more next replies (reply ∷ []) fault h) in
       record {
-        later = replies ++ plain_kept answer ∷ [];
+        later = replies ++ reply ∷ [];
         more = x.more;
         logs = x.logs;
-        same = records_same replies (plain_kept answer ∷ []) refl;
-        adds = (plain_kept answer ∷ [], refl);
+        same = records_same replies (reply ∷ []) none;
+        adds = (reply ∷ [], refl);
         whole = fails.0;
-        ends = λ passed f. fails.1 None (passed ++ x.more) (x.follows passed f, at (plain_kept answer ∷ []));
+        ends = λ passed f. fails.1 None (passed ++ x.more) (x.follows passed f, at (reply ∷ []));
       }
-  closed_unmarked {replies = replies} {fault} (Err cut) at h called =
+
+  closed_for : {goes : AfterVolume} {p q : P} {replies : List PlainReply} {fault : ReadFault} (cause : TapeCause) → GoesOnBy next next_close replies → IsUnmarked next replies fault → HasCause tells Close p q cause
+      → Concludes next goes [] tells p q replies (Err fault)
+  closed_for (Refused n) at h (text, called) = closed_by (Error n text) refl at h called
+  closed_for {replies = replies} {fault} (NoReply cut) at h called =
       let x = call_finishes {tells = tells} (on_first next at) called in
       let fails = unmarked_fails next replies fault h in
       record { later = replies; more = x.more; logs = x.logs; same = refl; adds = beginning_same replies; whole = fails.0; ends = λ passed f. fails.1 (Some cut) (passed ++ x.more) (x.stops passed f) }
 
-module _ {P : Type 0} (next : List PlainReply → Option PlainRequest) (tells : P → List Passed → Type 0) where
-  -- a step of the look was answered, and the look goes on
-  pub look_on : {p q : P} (r : P) (replies : List PlainReply) {request : PlainRequest} (at_mark step further : List PlainReply → Option PlainRequest) (reply : PlainReply) (result : Result (Option ReadFault) ReadFault)
-      → records_of (reply ∷ []) ≡ [] → step [] ≡ Some request → ((ends : List PlainReply) → step (reply ∷ ends) ≡ further ends) → GoesOnBy next step replies → IsCalled tells request (Ok reply) p q
-      → (GoesOnBy next further (replies ++ reply ∷ []) → HasSoughtMark next at_mark tells q r (replies ++ reply ∷ []) result) → HasSoughtMark next at_mark tells p r replies result
-  look_on r replies at_mark step further reply result none asks turns at h more =
-      looked_after at_mark r result (reply_extends reply (on_first next at ∙ asks) h) (records_same replies (reply ∷ []) none) (reply ∷ [], refl) (more (λ ends. on_after next step replies reply at ends ∙ turns ends))
+  pub closed_unmarked : {goes : AfterVolume} {p q : P} {replies : List PlainReply} {fault : ReadFault} (result : Result Unit TapeFault) → GoesOnBy next next_close replies → IsUnmarked next replies fault
+      → IsAsked tells asked.Close Close p q result → Concludes next goes [] tells p q replies (Err fault)
+  closed_unmarked (Ok u) at h called = closed_by (Done called.0) refl at h called.1
+  closed_unmarked (Err fault) at h called = closed_for fault.cause at h called.1
 
+module _ {P : Type 0} (next : List PlainReply → Option PlainRequest) (tells : P → List Passed → Type 0) where
   -- the mark is looked for, as `goes` asks
   pub look_so : (goes : AfterVolume) (c : Bool) (replies : List PlainReply) (n : ℕ) → (goes ≡ Check) ⊎ (goes ≡ Offline) → GoesOnBy next (next_mark goes c n) replies
       → (goes ≢ Stay) × GoesOnBy next (next_back (next_end goes c) n) replies

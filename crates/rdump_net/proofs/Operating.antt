@@ -1,7 +1,17 @@
 -- The replies of one operation of mtio.
-use Rattle.rdump_net.proofs.Words.{◌≡◌, ℕ, List, [], ◌∷◌, ◌++◌, true, Option, Some, None, Result, Ok, Err, refl, PlainReply, ExitStatus, Open, Close, Op, IsCalled, is_done, stream_ends, stream_kind, mode_for, IsOperationReply, IsOperated, IsReplyPrinted, Counting, CallFault, Passed}
+use Rattle.rdump_net.proofs.Words.{◌≡◌, ℕ, List, [], ◌∷◌, ◌++◌, true, Option, Some, None, Result, Ok, Err, refl, PlainReply, Done, Error, PlainRequest, HasCause, IsAsked, TapeRequest, TapeCause, TapeFault, NoReply, Refused, ExitStatus, Open, Close, Op, IsCalled, is_done, stream_ends, stream_kind, mode_for, IsOperationReply, IsOperated, IsReplyPrinted, Counting, CallFault, Passed}
 use Rattle.rdump_net.specs.Operation.{next_of}
-use Rattle.rdump_net.proofs.Calls.{reply_extends, call_finishes, extends_both, finishes_after, finishes_there}
+use Rattle.remote_tape.proofs.Calls.{reply_extends, call_finishes, extends_both, finishes_after, finishes_there}
+
+-- a request to a tape is a call
+caused_call : {P : Type 0} (tells : P → List Passed → Type 0) (p q : P) (request : PlainRequest) (cause : TapeCause) → HasCause tells request p q cause → (result : Result PlainReply CallFault) × IsCalled tells request result p q
+caused_call tells p q request (Refused n) (text, h) = (Ok (Error n text), h)
+caused_call tells p q request (NoReply why) h = (Err why, h)
+
+pub asked_call : {P : Type 0} (tells : P → List Passed → Type 0) (p q : P) (request : PlainRequest) (name : TapeRequest) (result : Result Unit TapeFault) → IsAsked tells name request p q result
+    → (reply : Result PlainReply CallFault) × IsCalled tells request reply p q
+asked_call tells p q request name (Ok u) h = (Ok (Done h.0), h.1)
+asked_call tells p q request name (Err fault) h = caused_call tells p q request fault.cause h.1
 
 module _ {P : Type 0} (tells : P → List Passed → Type 0) (device : List ℕ) (op count : ℕ) where
   -- the open was done, and the operation is asked

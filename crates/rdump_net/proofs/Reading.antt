@@ -1,20 +1,10 @@
 -- A volume that is read over a peer, put together.
 use Rattle.std.proofs.lemmas.Bool.Decides.{nat_tests}
-use Rattle.rdump_net.proofs.Words.{◌≡◌, ◌≢◌, inl, inr, ℕ, ◌+◌, ◌-◌, ◌^◌, ◌≤◌, List, [], ◌∷◌, ◌++◌, length, length-append, Bool, true, false, Option, Some, None, Result, Ok, Err, Vec, Global, refl, sym, ap, subst, ◌∙◌, if◌then◌else◌, append-nil, append_assoc, nat_eq, arith, vec_len, plain_kept, RECORD_LIMIT, PlainReply, Done, Data, Error, Number, PlainRequest, Read, Op, wanted_by, IsPeerCall, IsCalled, CallsFollow, Extends, IsRecordCalled, IsOperationCalled, read_fault, sink_ends, sink_kind, SinkCall, Takes, blocks_from, calls_of, Label, Block, nothing, accepted, stopped, next_of, next_read, next_mark, after_for_count, after_for_records, records_of, IsNamed, ReadFails, ReadEnds, IsEnding, is_whole, is_taken, AreRecords, IsAtLabel, IsVolumeReading, OnlyTheLastIsEmpty, IsBeginningOf, EndsAtRefusal, GoesOnBy, Breaks, CallSteps, IsBegun, IsDone, IsDoneBy, Reads, ReadsVolume, AreRecordsGiven, HasConcluded, IsGiven, HasReadVolume, unasked, KeptReply, CallFault, ReadFault, Refused, Stopped, Passed, AfterVolume, alone}
-use Rattle.rdump_net.specs.declared.fault.VolumeRequest.{VolumeRequest}
-use Rattle.rdump_net.specs.declared.fault.VolumeRequest.TheVariants as asked
-use Rattle.rdump_net.specs.declared.fault.CallFault.TheVariants as call
-use Rattle.rdump_net.specs.declared.fault.ReadFault.TheVariants.{Botched}
-use Rattle.rdump_net.proofs.Calls.{went_on, reply_extends, call_finishes, extends_both}
-
--- the records of replies, and of more
-pub records_more : (a b : List PlainReply) → records_of (a ++ b) ≡ records_of a ++ records_of b
-records_more [] b = refl
-records_more (Data bytes ∷ a) b = ap (λ l. bytes ∷ l) (records_more a b)
-records_more (reply ∷ a) b = records_more a b
-
-pub records_same : (a b : List PlainReply) → records_of b ≡ [] → records_of (a ++ b) ≡ records_of a
-records_same a b none = records_more a b ∙ ap (λ l. records_of a ++ l) none ∙ append-nil (records_of a)
+use Rattle.rdump_net.proofs.Words.{◌≡◌, ◌≢◌, inl, inr, ℕ, ◌+◌, ◌-◌, ◌^◌, ◌≤◌, List, [], ◌∷◌, ◌++◌, length, length-append, Bool, true, false, Option, Some, None, Result, Ok, Err, refl, sym, ap, subst, ◌∙◌, if◌then◌else◌, append-nil, append_assoc, nat_eq, arith, RECORD_LIMIT, PlainReply, Done, Data, Error, PlainRequest, Read, IsCalled, CallsFollow, Extends, Finishes, HasCause, HasFailed, IsAsked, TapeRequest, TapeFault, TapeCause, Refused, NoReply, Tape, TapeFails, sink_ends, sink_kind, SinkCall, Takes, blocks_from, calls_of, Label, Block, nothing, accepted, stopped, next_of, next_read, next_mark, after_for_count, after_for_records, records_of, IsNamed, ReadFails, ReadEnds, IsEnding, is_whole, is_taken, AreRecords, IsAtLabel, IsVolumeReading, OnlyTheLastIsEmpty, IsBeginningOf, EndsAtRefusal, GoesOnBy, Breaks, CallSteps, IsBegun, IsDone, IsDoneNext, Reads, ReadsVolume, AreRecordsGiven, HasConcluded, IsGiven, HasReadVolume, unasked, CallFault, ReadFault, Stopped, Passed, AfterVolume, alone}
+use Rattle.refusals.specs.declared.request.TapeRequest.TheVariants as asked
+use Rattle.remote_tape.specs.declared.fault.CallFault.TheVariants as call
+use Rattle.remote_tape.proofs.Calls.{went_on, reply_extends, call_finishes, extends_both}
+use Rattle.remote_tape.proofs.Searching.{records_more, records_same, beginning_same}
 
 -- what is asked after records depends on their number only
 after_records : (after : AfterVolume) (c : Bool) (m n : ℕ) (reads more : List PlainReply) → AreRecords m n reads → next_read after c m (reads ++ more) ≡ next_read after c n more
@@ -70,20 +60,6 @@ reading_more m n replies reads (opened, rewound, b, label, before, e, met, h) mo
 label_read : (replies : List PlainReply) (b : ℕ) (bytes : List ℕ) → IsAtLabel replies → IsVolumeReading 1 (replies ++ Data (b ∷ bytes) ∷ [])
 label_read replies b bytes (opened, rewound, e, met, none) = (opened, rewound, b, bytes, [], ap (λ l. l ++ Data (b ∷ bytes) ∷ []) e, met, refl)
 
--- no reply is of the wrong kind
-pub no_data : (request : PlainRequest) (bytes : List ℕ) (passed : List Passed) → wanted_by request ≡ Number → IsPeerCall request (Ok (Data bytes)) passed → ⊥
-no_data request bytes passed w h = grind arith
-
-pub no_number : (n count : ℕ) (passed : List Passed) → IsPeerCall (Read count) (Ok (Done n)) passed → ⊥
-no_number n count passed h = grind arith
-
--- what a list begins with
-pub beginning_same : (a : List PlainReply) → IsBeginningOf a a
-beginning_same a = ([], sym (append-nil a))
-
-pub beginning_both : (a b c : List PlainReply) → IsBeginningOf a b → IsBeginningOf b c → IsBeginningOf a c
-beginning_both a b c (x, e) (y, f) = (x ++ y, f ∙ ap (λ l. l ++ y) e ∙ append_assoc a x y)
-
 -- a sink was given calls, and then more
 pub takes_both : {S : Type 0} (takes : S → S → SinkCall → Bool → Type 0) {s t u : S} {a b : List SinkCall} {first whole : Bool} → first ≡ true → Takes takes s t a first → Takes takes t u b whole
     → Takes takes s u (a ++ b) whole
@@ -99,39 +75,43 @@ module _ {P : Type 0} {next : List PlainReply → Option PlainRequest} {tells : 
   pub extends_none : (p : P) (a : List PlainReply) → Extends next tells p p a a
   extends_none p a = record { more = []; logs = alone tells p; follows = λ passed f. subst (CallsFollow next a) (sym (append-nil passed)) f }
 
-  -- a call is refused
-  pub refused_so : {p q : P} {replies : List PlainReply} {request : PlainRequest} {n : ℕ} {text : List ℕ} (named : VolumeRequest) → next replies ≡ Some request
-      → IsNamed named request → EndsAtRefusal next replies → IsCalled tells request (Ok (Error n text)) p q → CallSteps next tells p q replies (Err (Refused named n))
-  refused_so {replies = replies} {request} {n} {text} named e is stops h =
-      let x = reply_extends {tells = tells} (Error n text) e h in (
+  -- the calls end, since one has no reply
+  no_reply_fails : {p q : P} {replies later : List PlainReply} (name : TapeRequest) (why : CallFault) → (x : Finishes next tells p q replies (Some why) later) → (passed : List Passed) → CallsFollow next replies passed
+      → TapeFails next later (passed ++ x.more) name (NoReply why)
+  no_reply_fails name call.ConnectionEnded x passed f = x.stops passed f
+  no_reply_fails name call.Botched x passed f = inl (x.stops passed f)
+  no_reply_fails name call.OutOfMemory x passed f = x.stops passed f
+
+  pub no_reply_so : {p q : P} {replies later : List PlainReply} (fault : TapeFault) (why : CallFault) → fault.cause ≡ NoReply why → Finishes next tells p q replies (Some why) later → records_of later ≡ records_of replies
+      → IsBeginningOf replies later → CallSteps next tells p q replies (Err (Tape fault))
+  no_reply_so {later = later} fault why e x same on = (
+    later,
+    record { more = x.more; logs = x.logs; fails = λ passed f. subst (TapeFails next later (passed ++ x.more) fault.request) (sym e) (no_reply_fails fault.request why x passed f) },
+    same,
+    refl,
+    on,
+  )
+
+  -- a call is refused, or has no reply
+  failed_so : {p q : P} {replies : List PlainReply} {request : PlainRequest} (name : TapeRequest) (fault : TapeFault) (cause : TapeCause) → fault.cause ≡ cause → fault.request ≡ name → IsNamed name request
+      → next replies ≡ Some request → EndsAtRefusal next replies → HasCause tells request p q cause → CallSteps next tells p q replies (Err (Tape fault))
+  failed_so {replies = replies} {request} name fault (Refused n) e same is asks stops (text, h) =
+      let x = reply_extends {tells = tells} (Error n text) asks h in
+      let named = subst (λ r. IsNamed r request) (sym same) is in
+      let fails : (passed : List Passed) → CallsFollow next replies passed → TapeFails next (replies ++ Error n text ∷ []) (passed ++ x.more) fault.request (Refused n) =
+      λ passed f. (x.follows passed f, (replies, text, request, refl, asks, named), stops n text) in (
         replies ++ Error n text ∷ [],
-        record { more = x.more; logs = x.logs; fails = λ passed f. (x.follows passed f, (replies, text, request, refl, e, is, stops n text)) },
+        record { more = x.more; logs = x.logs; fails = λ passed f. subst (TapeFails next (replies ++ Error n text ∷ []) (passed ++ x.more) fault.request) (sym e) (fails passed f) },
         records_same replies (Error n text ∷ []) refl,
         refl,
         (Error n text ∷ [], refl),
       )
+  failed_so {replies = replies} name fault (NoReply why) e same is asks stops h = no_reply_so fault why e (call_finishes {tells = tells} asks h) refl (beginning_same replies)
 
-  -- it has no reply
-  pub step_failed : {p q : P} {replies : List PlainReply} {request : PlainRequest} (fault : CallFault) → next replies ≡ Some request → IsCalled tells request (Err fault) p q
-      → CallSteps next tells p q replies (Err (read_fault fault))
-  step_failed {replies = replies} call.Botched e h =
-      let x = call_finishes {tells = tells} e h in (replies, record { more = x.more; logs = x.logs; fails = λ passed f. inl (x.stops passed f) }, refl, refl, beginning_same replies)
-  step_failed {replies = replies} call.ConnectionEnded e h =
-      let x = call_finishes {tells = tells} e h in (replies, record { more = x.more; logs = x.logs; fails = x.stops }, refl, refl, beginning_same replies)
-  step_failed {replies = replies} call.OutOfMemory e h =
-      let x = call_finishes {tells = tells} e h in (replies, record { more = x.more; logs = x.logs; fails = x.stops }, refl, refl, beginning_same replies)
-
-  -- the read of a record fails, when it is the next call
-  record_fails : {p q : P} {replies : List PlainReply} {why : ReadFault} → next replies ≡ Some (Read RECORD_LIMIT) → EndsAtRefusal next replies → IsRecordCalled tells p q (Err why)
-      → CallSteps next tells p q replies (Err why)
-  record_fails e stops (Ok (Error k text), is, h) = rw is (refused_so asked.Read e refl stops h)
-  record_fails e stops (Err fault, is, h) = rw is (step_failed fault e h)
-  record_fails e stops (reply, is, h) = absurd is
-
-  -- an operation has no reply, when it is the next call
-  pub operation_fails : {p q : P} {replies : List PlainReply} {op count : ℕ} {why : ReadFault} → next replies ≡ Some (Op op count) → IsOperationCalled tells op count p q (Err why)
-      → CallSteps next tells p q replies (Err why)
-  operation_fails e (fault, is, h) = rw is (step_failed fault e h)
+  -- a request fails, when it is the next one
+  pub step_failed : {p q : P} {replies : List PlainReply} {request : PlainRequest} (name : TapeRequest) (fault : TapeFault) → IsNamed name request → next replies ≡ Some request → EndsAtRefusal next replies
+      → HasFailed tells name request p q fault → CallSteps next tells p q replies (Err (Tape fault))
+  step_failed name fault is asks stops h = failed_so name fault fault.cause refl h.0 is asks stops h.1
 
 -- the records after the label that were given to the sink so far: there are `turn` with the label
 pub record GivenTo {P S : Type 0} (next : List PlainReply → Option PlainRequest) (tells : P → List Passed → Type 0) (takes : S → S → SinkCall → Bool → Type 0) (replies : List PlainReply)
@@ -212,16 +192,16 @@ module _ {P S : Type 0} {tells : P → List Passed → Type 0} {takes : S → S 
         (record { more = all.more; logs = all.logs; fails = λ passed k. (all.follows passed k, read_next (next_of device after c) after c (turn + 1) ((replies ++ w.reads) ++ Data (b ∷ bytes) ∷ []) (reading_goes device after c (turn + 1) ((replies ++ w.reads) ++ Data (b ∷ bytes) ∷ []) read)) })
 
     -- a record that does not come
-    pub given_so_far : {r : P} {fault : ReadFault} → IsRecordCalled tells q r (Err fault) → AreRecordsGiven (next_of device after c) (sink_kind tells takes) replies (sink_ends p s) (sink_ends r t) (Err fault)
-    given_so_far h =
-        let x = record_fails (read_next (next_of device after c) after c turn (replies ++ w.reads) goes) (λ number text. goes (Error number text ∷ [])) h in
+    pub given_so_far : {r : P} (fault : TapeFault) → HasFailed tells asked.Read (Read RECORD_LIMIT) q r fault → AreRecordsGiven (next_of device after c) (sink_kind tells takes) replies (sink_ends p s) (sink_ends r t) (Err (Tape fault))
+    given_so_far fault h =
+        let x = step_failed asked.Read fault (RECORD_LIMIT, refl) (read_next (next_of device after c) after c turn (replies ++ w.reads) goes) (λ number text. goes (Error number text ∷ [])) h in
         given_with [] x.0 (x.2 ∙ ap records_of (sym (append-nil (replies ++ w.reads)))) tt (subst (Takes takes t t []) (sym x.3) nothing) (breaks_after w.extends x.1)
 
     -- no end
-    pub given_for_good : 2 ^ 64 - 1 ≤ turn → AreRecordsGiven (next_of device after c) (sink_kind tells takes) replies (sink_ends p s) (sink_ends q t) (Err Botched)
-    given_for_good many =
+    pub given_for_good : (fault : TapeFault) → fault.cause ≡ NoReply call.Botched → 2 ^ 64 - 1 ≤ turn → AreRecordsGiven (next_of device after c) (sink_kind tells takes) replies (sink_ends p s) (sink_ends q t) (Err (Tape fault))
+    given_for_good fault e many =
         let long = records_count 1 turn w.reads w.are in given_with [] (replies ++ w.reads) (ap records_of (sym (append-nil (replies ++ w.reads)))) tt nothing
-        (record { more = w.extends.more; logs = w.extends.logs; fails = λ passed k. inr (w.extends.follows passed k, (omega (arith, length-append replies w.reads, ap length reading.5, long, many))) })
+        (record { more = w.extends.more; logs = w.extends.logs; fails = λ passed k. subst (TapeFails (next_of device after c) (replies ++ w.reads) (passed ++ w.extends.more) fault.request) (sym e) (inr (w.extends.follows passed k, (omega (arith, length-append replies w.reads, ap length reading.5, long, many)))) })
 
   -- what was given when these records were read, the label first
   given_label : {p r : P} {s u : S} {result : Result ℕ ReadFault} (later : List PlainReply) (records : List (List ℕ)) → records_of later ≡ records → OnlyTheLastIsEmpty records
@@ -237,9 +217,9 @@ module _ {P S : Type 0} {tells : P → List Passed → Type 0} {takes : S → S 
 
   module _ (fresh : IsAtLabel replies) {p q : P} where
     -- the first record does not come
-    pub given_unread : (s : S) (fault : ReadFault) → IsRecordCalled tells p q (Err fault) → IsGiven (next_of device after c) after c (sink_kind tells takes) replies (sink_ends p s) (sink_ends q s) (Err fault)
+    pub given_unread : (s : S) (fault : TapeFault) → HasFailed tells asked.Read (Read RECORD_LIMIT) p q fault → IsGiven (next_of device after c) after c (sink_kind tells takes) replies (sink_ends p s) (sink_ends q s) (Err (Tape fault))
     given_unread s fault h =
-        let goes = label_goes device after c replies fresh in given_none s fault fresh.4 (record_fails (read_next (next_of device after c) after c 0 replies goes) (λ number text. goes (Error number text ∷ [])) h)
+        let goes = label_goes device after c replies fresh in given_none s (Tape fault) fresh.4 (step_failed asked.Read fault (RECORD_LIMIT, refl) (read_next (next_of device after c) after c 0 replies goes) (λ number text. goes (Error number text ∷ [])) h)
 
     -- a mark comes in its place
     pub given_mark : (s : S) (bytes : List ℕ) → IsCalled tells (Read RECORD_LIMIT) (Ok (Data bytes)) p q → bytes ≡ []
@@ -301,11 +281,16 @@ empty : (items : List ℕ) → length items ≡ 0 → items ≡ []
 empty [] e = refl
 empty (b ∷ items) e = absurd (omega (arith, e))
 
-pub none_there : (bytes : Vec ℕ Global) {test : Bool} → test ≡ nat_eq (vec_len bytes) 0 → test ≡ true → bytes.items ≡ []
-none_there bytes e h = let long = bytes.ok.0 in empty bytes.items (grind (arith, nat_tests))
+pub none_there : (bytes : List ℕ) {test : Bool} → test ≡ nat_eq (length bytes) 0 → test ≡ true → bytes ≡ []
+none_there bytes e h = empty bytes (grind (arith, nat_tests))
 
-pub some_there : (bytes : Vec ℕ Global) {test : Bool} → test ≡ nat_eq (vec_len bytes) 0 → test ≡ false → bytes.items ≢ []
-some_there bytes e h none = let long = bytes.ok.0 in grind (arith, nat_tests)
+pub some_there : (bytes : List ℕ) {test : Bool} → test ≡ nat_eq (length bytes) 0 → test ≡ false → bytes ≢ []
+some_there bytes e h none = grind (arith, nat_tests)
+
+-- the result of a request to a tape, as one of reading a volume
+abbrev pub tape_result : Result Unit TapeFault → Result Unit ReadFault
+tape_result (Ok u) = Ok u
+tape_result (Err fault) = Err (Tape fault)
 
 -- after the open the rewind, or why it was not done
 pub begun_both : {P : Type 0} (tells : P → List Passed → Type 0) (device : List ℕ) (after : AfterVolume) (c : Bool) (p q r : P) (opened : PlainReply) (result : Result Unit ReadFault) → records_of (opened ∷ []) ≡ []
@@ -313,9 +298,8 @@ pub begun_both : {P : Type 0} (tells : P → List Passed → Type 0) (device : L
 begun_both tells device after c p q r opened (Ok u) none x y = (opened, y.0, y.1, records_same (opened ∷ []) (y.0 ∷ []) y.2 ∙ none, extends_both x y.3)
 begun_both tells device after c p q r opened (Err fault) none x y = (y.0, breaks_after x y.1, y.2 ∙ none, y.3, (y.0, refl))
 
-pub step_answered : {P : Type 0} (next : List PlainReply → Option PlainRequest) (tells : P → List Passed → Type 0) {p q : P} {replies : List PlainReply} {request : PlainRequest} (answer : KeptReply) (named : VolumeRequest)
-    (result : Result Unit ReadFault) → next replies ≡ Some request → EndsAtRefusal next replies → wanted_by request ≡ Number → IsNamed named request → IsCalled tells request (Ok (plain_kept answer)) p q
-    → IsDoneBy answer named result → IsDone next tells p q replies result
-step_answered next tells answer named (Ok u) e stops w n h d = (Done d.0, refl, refl, reply_extends (Done d.0) e (rw d.1 at h))
-step_answered next tells answer named (Err fault) e stops w n h (inl d) = rw d.3 (refused_so named e n stops (rw d.2 at h))
-step_answered next tells answer named (Err fault) e stops w n h (inr d) = let got = rw d.1 at h in absurd (no_data _ d.0.items got.0 w got.1)
+-- a request that was made when it was the next one
+pub asked_next : {P : Type 0} (tells : P → List Passed → Type 0) (p q : P) {request : PlainRequest} (name : TapeRequest) (result : Result Unit TapeFault) → IsNamed name request → IsAsked tells name request p q result
+    → IsDoneNext tells request p q (tape_result result)
+asked_next tells p q name (Ok u) is h = λ next replies asks stops. (Done h.0, refl, refl, reply_extends (Done h.0) asks h.1)
+asked_next tells p q name (Err fault) is h = λ next replies asks stops. step_failed name fault is asks stops h

@@ -1,5 +1,5 @@
 -- What a client does over a peer, put together.
-use Rattle.rdump_net.proofs.Words.{◌≡◌, ◌≢◌, map, ℕ, zero, suc, List, [], ◌∷◌, ◌++◌, Bool, true, Result, Ok, refl, sym, subst, append-nil, append_assoc, ◌<◌, ◌≤◌, length, take, arith, Standing, AnsweredAt, ClientHeld, HasFed, NextRequestAt, AttemptFault, StartFault, Answer, Stage, Logs, given, Passed, Given, Ended, FromNone, TalkStep, Talks, TalksAlone, TalksOver, starts, stays, asks, has_none, hears, ends, answers, one_more, alone, both}
+use Rattle.rdump_net.proofs.Words.{◌≡◌, ◌≢◌, map, ℕ, List, [], ◌∷◌, ◌++◌, Bool, true, Result, Ok, refl, sym, subst, append-nil, append_assoc, arith, Standing, AnsweredAt, ClientHeld, HasFed, NextRequestAt, AttemptFault, StartFault, Answer, Stage, Logs, Passed, Given, Ended, FromNone, TalkStep, Talks, TalksAlone, TalksOver, starts, stays, asks, has_none, hears, ends, answers, one_more, alone, both}
 use Rattle.rdump_net.specs.Talk.Talks.{none}
 
 -- what holds for each payload of `told` holds for each of `less`, if these are payloads of `told` too
@@ -91,13 +91,3 @@ module _ {B : Type 0} {holds : B → List (List ℕ) → Type 0} where
     same = λ payload told. subst (λ s. holds s payload) (sym e) told;
     talked = λ old k. (old, answers answer result h, fed old k);
   }
-
--- a read into some room gives the bytes that came, or if none came, the end
-pub some_given : (room : List ℕ) (n : ℕ) → n ≤ length room → n ≢ 0 → given room (take n room) ≡ map Given (take n room)
-some_given [] n within some = absurd (some (omega (arith, within)))
-some_given (r ∷ room) zero within some = absurd (some refl)
-some_given (r ∷ room) (suc n) within some = refl
-
-pub none_given : (room : List ℕ) (n : ℕ) → 0 < length room → n ≡ 0 → given room (take n room) ≡ Ended ∷ []
-none_given [] n some e = absurd (omega (arith, some))
-none_given (r ∷ room) n some e = rw e refl

@@ -11,24 +11,29 @@ pub use Rattle.dump_client.specs.declared.stage.Answer.{Answer}
 pub use Rattle.dump_client.specs.declared.stage.Progress.{Progress}
 pub use Rattle.dump_client.specs.declared.stage.Stage.{Stage}
 pub use Rattle.exit_status.specs.declared.status.ExitStatus.{ExitStatus}
-pub use Rattle.rdump_net.proofs.Basics.{alone, both, is_fault}
+pub use Rattle.remote_tape.proofs.Basics.{alone, both, is_fault}
 pub use Rattle.rdump_net.specs.Booking.{EntersOn}
-pub use Rattle.rdump_net.specs.Call.{IsCalled, IsFront, IsPeerCall, IsReplyAwaited, IsReplyHeard, IsTaken, wanted_by}
-pub use Rattle.rdump_net.specs.Calls.{CallsFollow, Extends, Finishes, Stops, is_done}
-pub use Rattle.rdump_net.specs.Calls.CallsFollow.{begins}
-pub use Rattle.rdump_net.specs.DriveCalls.{IsOperationCalled, IsRecordCalled, read_fault}
+pub use Rattle.refusals.specs.declared.request.TapeRequest.{TapeRequest}
+pub use Rattle.remote_tape.specs.Call.{IsCalled, IsPeerCall, plain_number, plain_result, wanted_by}
+pub use Rattle.remote_tape.specs.Calls.{CallsFollow, Extends, Finishes, Stops, is_done}
+pub use Rattle.remote_tape.specs.Calls.CallsFollow.{begins}
+pub use Rattle.remote_tape.specs.Search.{GoesOnBy, HasNoReply, HasReply, HasSought, IsBeginningOf, IsMarkFound, IsRefusedLast, next_back, next_close, records_of}
+pub use Rattle.remote_tape.specs.Tape.{HasCause, HasFailed, IsAsked, IsNamed, IsRecordRead}
+pub use Rattle.remote_tape.specs.declared.fault.TapeCause.{TapeCause}
+pub use Rattle.remote_tape.specs.declared.fault.TapeCause.TheVariants.{NoReply, Refused}
+pub use Rattle.remote_tape.specs.declared.fault.TapeFault.{TapeFault}
+pub use Rattle.remote_tape.specs.declared.mark_search.MarkSearch.{MarkSearch}
 pub use Rattle.rdump_net.specs.Ends.{SinkEnds, SinkKind, copy_ends, copy_kind, sink_ends, sink_kind, stream_ends, stream_kind}
 pub use Rattle.rdump_net.specs.Keeping.{HasKept, HasKeptTo, IsDumpKept, IsKept, IsKeptConclusion, IsKeptUp, IsUnkept, KeptDump, KeptEnds, KeptKind, PutsOn, kept_ends, kept_kind, plain_checkpoint, unkept_line}
-pub use Rattle.rdump_net.specs.KeptReply.{plain_kept, plain_result}
 pub use Rattle.rdump_net.specs.Lines.{DumpLines, IsConcluded, IsConclusion, IsDumped, IsFinish, IsPrefixOf, IsRound, conclusion_status, count_line, count_lines, failure_lines, question_line}
 pub use Rattle.rdump_net.specs.Lines.DumpLines.{asked, counted, failed, none}
-pub use Rattle.rdump_net.specs.Look.{Fails, Finding, Goes, IsAnsweredAt, IsLook, IsLookPart, IsReadAt, LookStage, after_read, plain_front, request_at, stage_from, stage_then}
+pub use Rattle.rdump_net.specs.Look.{Fails, Finding, Goes, IsFailedPart, IsLook, IsLookPart, IsRecordKept, LookFails, LookStage, after_read, plain_front, request_at, stage_from, stage_then}
 pub use Rattle.rdump_net.specs.Look.Finding.{Front, Refusal}
 pub use Rattle.rdump_net.specs.Look.LookStage.{Closed, Closing, Opening, Reading, Rewinding, RewindingAgain, Spacing}
 pub use Rattle.rdump_net.specs.Look.PlainFront.{Empty, Record}
 pub use Rattle.rdump_net.specs.Operation.{IsOperated, IsOperationReply, IsReplyPrinted, mode_for}
-pub use Rattle.rdump_net.specs.Peer.{AreBytesSent, Logs, given}
-pub use Rattle.rdump_net.specs.Reading.{AreRecords, AreRecordsGiven, Breaks, CallSteps, Concludes, EndsAtRefusal, GoesOnBy, HasConcluded, HasReadVolume, HasReply, HasSoughtMark, IsAtLabel, IsBeginningOf, IsBegun, IsDone, IsDoneBy, IsDoneNext, IsEndKnown, IsEnding, IsGiven, IsMarkFound, IsNamed, IsRead, IsTakenAway, IsTakenAwayOnlyIfKept, IsUnmarked, IsVolumeCopied, IsVolumeReading, OnlyTheLastIsEmpty, ReadEnds, ReadFails, Reads, ReadsVolume, after_for_count, after_for_records, file_bytes, is_taken, is_whole, label_text, next_again, next_back, next_close, next_end, next_forward, next_mark, next_of, next_over, next_read, records_of}
+pub use Rattle.remote_tape.specs.Peer.{AreBytesSent, Logs, given}
+pub use Rattle.rdump_net.specs.Reading.{AreRecords, AreRecordsGiven, Breaks, CallSteps, Concludes, EndsAtRefusal, HasConcluded, HasReadVolume, IsAtLabel, IsBegun, IsDone, IsDoneNext, IsEndKnown, IsEnding, IsGiven, IsRead, IsTakenAway, IsTakenAwayOnlyIfKept, IsUnmarked, IsVolumeCopied, IsVolumeReading, OnlyTheLastIsEmpty, ReadEnds, ReadFails, Reads, ReadsVolume, TapeFails, after_for_count, after_for_records, file_bytes, is_taken, is_whole, label_text, next_end, next_mark, next_of, next_read}
 pub use Rattle.rdump_net.specs.Reading.IsEnding.{refused, unasked}
 pub use Rattle.rdump_net.specs.Sink.{SinkCall, Takes, blocks_from, calls_of}
 pub use Rattle.rdump_net.specs.Sink.SinkCall.{Block, Complete, Label, Mark}
@@ -37,26 +42,21 @@ pub use Rattle.rdump_net.specs.Talk.{FromAny, FromNone, FromThis, GoesOn, TalkSt
 pub use Rattle.rdump_net.specs.Talk.TalkStep.{answers, asks, ends, has_none, hears, starts, stays}
 pub use Rattle.rdump_net.specs.Talk.Talks.{one_more}
 pub use Rattle.rdump_net.specs.declared.conclusion.Conclusion.{Conclusion}
-pub use Rattle.rdump_net.specs.declared.fault.CallFault.{CallFault}
-pub use Rattle.rdump_net.specs.declared.fault.CallFault.TheVariants.{Botched, ConnectionEnded, OutOfMemory}
+pub use Rattle.remote_tape.specs.declared.fault.CallFault.{CallFault}
+pub use Rattle.remote_tape.specs.declared.fault.CallFault.TheVariants.{Botched, ConnectionEnded, OutOfMemory}
 pub use Rattle.rdump_net.specs.declared.fault.ReadFault.{ReadFault}
-pub use Rattle.rdump_net.specs.declared.fault.ReadFault.TheVariants.{NoMark, Refused, Stopped, Undetermined}
-pub use Rattle.rdump_net.specs.declared.kept_reply.KeptReply.{KeptReply}
-pub use Rattle.rdump_net.specs.declared.look.LookFault.TheVariants.{NoReply}
-pub use Rattle.rdump_net.specs.declared.peer.Passed.{Passed}
-pub use Rattle.rdump_net.specs.declared.peer.Passed.TheVariants.{Connected, Ended, Given, Sent}
+pub use Rattle.rdump_net.specs.declared.fault.ReadFault.TheVariants.{NoMark, Stopped, Tape, Undetermined}
+pub use Rattle.remote_tape.specs.declared.peer.Passed.{Passed}
+pub use Rattle.remote_tape.specs.declared.peer.Passed.TheVariants.{Connected, Ended, Given, Sent}
 pub use Rattle.rdump_net.specs.declared.volume.AfterVolume.{AfterVolume}
 pub use Rattle.rdump_net.specs.declared.volume.AfterVolume.TheVariants.{Check, Offline, Stay}
 pub use Rattle.rmt_wire.specs.Counted.{Counting, HasRisen}
-pub use Rattle.rmt_wire.specs.Lent.{plain_request, plain_wanted}
 pub use Rattle.rmt_wire.specs.Print.{IsPrinted}
-pub use Rattle.rmt_wire.specs.Reply.{PlainReply, SpellsReply, Wanted}
+pub use Rattle.rmt_wire.specs.Reply.{PlainReply}
 pub use Rattle.rmt_wire.specs.Reply.PlainReply.{Data, Done, Error}
-pub use Rattle.rmt_wire.specs.Reply.Wanted.{DataUpTo, Number}
-pub use Rattle.rmt_wire.specs.ReplyParts.{ReplyParsesAs}
-pub use Rattle.rmt_wire.specs.ReplyReader.{ReplyHeld, ReplyUnread, reply_taken_of}
 pub use Rattle.rmt_wire.specs.Request.{PlainRequest}
 pub use Rattle.rmt_wire.specs.Request.PlainRequest.{Close, Op, Open, Read}
 pub use Rattle.rmt_wire.specs.declared.errno.TheConstants.{EIO}
-pub use Rattle.rmt_wire.specs.declared.limits.TheConstants.{NUMBER_LIMIT, READER_LIMIT, RECORD_LIMIT}
-pub use Rattle.rmt_wire.specs.declared.mtio.TheConstants.{MTBSR, MTFSF, MTOFFL}
+pub use Rattle.rmt_wire.specs.declared.limits.TheConstants.{RECORD_LIMIT}
+pub use Rattle.rmt_wire.specs.declared.mtio.TheConstants.{MTFSF, MTOFFL}
+pub use Rattle.rmt_wire.specs.declared.fcntl.TheConstants.{O_RDONLY}

@@ -3,7 +3,7 @@
 use Rattle.std.specs.Prelude.{ℕ, Bool, List, Option}
 use Rattle.rmt_wire.specs.Counted.{Counting}
 use Rattle.rdump_net.specs.Sink.{SinkCall}
-use Rattle.rdump_net.specs.declared.peer.Passed.{Passed}
+use Rattle.remote_tape.specs.declared.peer.Passed.{Passed}
 
 -- a peer, and one output stream
 pub record StreamEnds (P W : Type 0) : Type 0 where

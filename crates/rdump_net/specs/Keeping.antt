@@ -9,12 +9,12 @@ use Rattle.dump_run.specs.Run.{PlainRun}
 use Rattle.dump_run.specs.declared.count.VolumeCount.{VolumeCount}
 use Rattle.dump_client.specs.Standing.{Standing}
 use Rattle.dump_client.specs.Client.{ClientHeld, HasFed}
-use Rattle.rdump_net.specs.Peer.{Logs}
+use Rattle.remote_tape.specs.Peer.{Logs}
 use Rattle.rdump_net.specs.Talk.{Talks}
 use Rattle.rdump_net.specs.Lines.{DumpLines, IsConclusion}
 use Rattle.rdump_net.specs.declared.conclusion.Conclusion.{Conclusion}
 use Rattle.rdump_net.specs.declared.conclusion.Conclusion.TheVariants.{Complete, Unkept}
-use Rattle.rdump_net.specs.declared.peer.Passed.{Passed}
+use Rattle.remote_tape.specs.declared.peer.Passed.{Passed}
 
 -- makes a `PlainCheckpoint`
 abbrev pub plain_checkpoint : PlainRun → List VolumeCount → PlainCheckpoint

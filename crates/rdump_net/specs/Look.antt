@@ -2,8 +2,7 @@
 -- is what contracts use for a value that the code has in memory. A peer is the far end of a
 -- connection: what is sent over it goes through that connection. `p` and `p'` are the peer before
 -- and after, and `tells` relates a peer to what passed so far. Public contracts cite it.
-use Rattle.std.specs.Prelude.{◌≡◌, ℕ, List, [], ◌∷◌, Option, Some, None, Result, Ok, Err, if◌then◌else◌, nat_eq, Vec}
-use Rattle.std.specs.Global.{Global}
+use Rattle.std.specs.Prelude.{◌≡◌, ℕ, List, [], ◌∷◌, Option, Some, None, Result, Ok, Err, if◌then◌else◌, nat_eq}
 use Rattle.dump_run.specs.Label.{label_bytes}
 use Rattle.rmt_wire.specs.declared.errno.TheConstants.{EIO}
 use Rattle.rmt_wire.specs.declared.fcntl.TheConstants.{O_RDONLY}
@@ -12,16 +11,18 @@ use Rattle.rmt_wire.specs.Reply.{PlainReply}
 use Rattle.rmt_wire.specs.Reply.PlainReply.{Done, Data, Error}
 use Rattle.rmt_wire.specs.Request.{PlainRequest}
 use Rattle.rmt_wire.specs.Request.PlainRequest.{Open, Close, Read, Op}
-use Rattle.rdump_net.specs.Calls.{Stops, Extends, Finishes}
-use Rattle.rdump_net.specs.Peer.{Logs}
-use Rattle.rdump_net.specs.declared.fault.CallFault.{CallFault}
+use Rattle.remote_tape.specs.Calls.{Stops, Extends, Finishes}
+use Rattle.remote_tape.specs.Peer.{Logs}
+use Rattle.remote_tape.specs.declared.fault.CallFault.{CallFault}
 use Rattle.rdump_net.specs.declared.look.ReelFront.{ReelFront}
 use Rattle.rdump_net.specs.declared.look.ReelFront.TheVariants as fronts
-use Rattle.rdump_net.specs.declared.look.LookRequest.{LookRequest}
-use Rattle.rdump_net.specs.declared.look.LookRequest.TheVariants as asked
-use Rattle.rdump_net.specs.declared.look.LookFault.{LookFault}
-use Rattle.rdump_net.specs.declared.look.LookFault.TheVariants.{Refused, NoReply}
-use Rattle.rdump_net.specs.declared.peer.Passed.{Passed}
+use Rattle.refusals.specs.declared.request.TapeRequest.{TapeRequest}
+use Rattle.refusals.specs.declared.request.TapeRequest.TheVariants as asked
+use Rattle.remote_tape.specs.declared.fault.CallFault.TheVariants.{OutOfMemory}
+use Rattle.remote_tape.specs.declared.fault.TapeCause.{TapeCause}
+use Rattle.remote_tape.specs.declared.fault.TapeCause.TheVariants.{Refused, NoReply}
+use Rattle.remote_tape.specs.declared.fault.TapeFault.{TapeFault}
+use Rattle.remote_tape.specs.declared.peer.Passed.{Passed}
 
 -- the beginning of a reel: a record with these bytes, a mark, or nothing
 pub data PlainFront : Type 0 where
@@ -38,7 +39,7 @@ plain_front fronts.Empty = Empty
 -- what a look finds: the beginning of the reel, or that this request was refused with this number
 pub data Finding : Type 0 where
   Front : PlainFront → Finding
-  Refusal : LookRequest → ℕ → Finding
+  Refusal : TapeRequest → ℕ → Finding
 
 -- The stages of a look, each named for its next request: the open, the rewind, the read. If the
 -- read returned no bytes, the rewind again and spacing over a mark. Then the close, and then
@@ -108,15 +109,20 @@ stage_after replies = stage_from Opening replies
 abbrev pub next_of : List ℕ → List PlainReply → Option PlainRequest
 next_of device replies = request_at device (stage_after replies)
 
--- how a look ends: all requests were made and this was found, or the next request gets no reply
-abbrev pub LookEnds : List ℕ → List PlainReply → List Passed → Result ReelFront LookFault → Type 0
+-- How a look ends that failed for this cause: all requests were made, and the one with this name was
+-- refused; or the next request gets no reply.
+abbrev pub LookFails : List ℕ → List PlainReply → List Passed → TapeRequest → TapeCause → Type 0
+LookFails device replies passed name (Refused number) =
+    Stops (next_of device) None replies passed × (stage_after replies ≡ Closed (Refusal name number))
+LookFails device replies passed name (NoReply why) = Stops (next_of device) (Some why) replies passed
+
+-- how a look ends: all requests were made and this was found, or it failed
+abbrev pub LookEnds : List ℕ → List PlainReply → List Passed → Result ReelFront TapeFault → Type 0
 LookEnds device replies passed (Ok front) = Stops (next_of device) None replies passed × (stage_after replies ≡ Closed (Front (plain_front front)))
-LookEnds device replies passed (Err (Refused named number)) =
-    Stops (next_of device) None replies passed × (stage_after replies ≡ Closed (Refusal named number))
-LookEnds device replies passed (Err (NoReply fault)) = Stops (next_of device) (Some fault) replies passed
+LookEnds device replies passed (Err fault) = LookFails device replies passed fault.request fault.cause
 
 -- what a look does over a peer, and its result
-pub record IsLook {P : Type 0} (tells : P → List Passed → Type 0) (device : List ℕ) (p p' : P) (result : Result ReelFront LookFault) : Type 0 where
+pub record IsLook {P : Type 0} (tells : P → List Passed → Type 0) (device : List ℕ) (p p' : P) (result : Result ReelFront TapeFault) : Type 0 where
   pub replies : List PlainReply
   pub passed : List Passed
   pub logs : Logs tells p p' passed
@@ -136,37 +142,21 @@ Fails tells device from fault p p' =
     (replies : List PlainReply) → stage_after replies ≡ from
     → (later : List PlainReply) × Finishes (next_of device) tells p p' replies (Some fault) later
 
+-- From the stage `from` on the look makes further calls. It comes to the stage that has the refusal
+-- of the request with this name, or a call gets no reply.
+abbrev pub IsFailedPart : {P : Type 0} → (P → List Passed → Type 0) → List ℕ → LookStage → (Finding → LookStage) → P → P
+    → TapeRequest → TapeCause → Type 0
+IsFailedPart tells device from to p p' name (Refused number) = Goes tells device from (to (Refusal name number)) p p'
+IsFailedPart tells device from to p p' name (NoReply why) = Fails tells device from why p p'
+
 -- from the stage `from` on the look makes further calls, up to the stage that has what it found; or
 -- a call gets no reply
 abbrev pub IsLookPart : {P : Type 0} → (P → List Passed → Type 0) → List ℕ → LookStage → (Finding → LookStage) → P → P
-    → Result ReelFront LookFault → Type 0
+    → Result ReelFront TapeFault → Type 0
 IsLookPart tells device from to p p' (Ok front) = Goes tells device from (to (Front (plain_front front))) p p'
-IsLookPart tells device from to p p' (Err (Refused named number)) = Goes tells device from (to (Refusal named number)) p p'
-IsLookPart tells device from to p p' (Err (NoReply fault)) = Fails tells device from fault p p'
+IsLookPart tells device from to p p' (Err fault) = IsFailedPart tells device from to p p' fault.request fault.cause
 
--- the call of the stage `from`, whose request has the name `named`, is made: it is done, or
--- refused, or gets no reply
-abbrev pub IsAnsweredAt : {P : Type 0} → (P → List Passed → Type 0) → List ℕ → LookStage → LookRequest → P → P → Result Unit LookFault → Type 0
-IsAnsweredAt tells device from named p p' (Ok x) = (n : ℕ) × Goes tells device from (stage_then from (Done n)) p p'
-IsAnsweredAt tells device from named p p' (Err (Refused other n)) =
-    (other ≡ named) × ((text : List ℕ) × Goes tells device from (stage_then from (Error n text)) p p')
-IsAnsweredAt tells device from named p p' (Err (NoReply fault)) = Fails tells device from fault p p'
-
--- The call with `request` is made, at whatever stage of a look makes it, and whatever the device:
--- it is done, or refused, or gets no reply. A fault calls the request `named`.
-abbrev pub IsAnswered : {P : Type 0} → (P → List Passed → Type 0) → LookRequest → PlainRequest → P → P → Result Unit LookFault → Type 0
-IsAnswered tells named request p p' result =
-    (device : List ℕ) (from : LookStage) → request_at device from ≡ Some request → IsAnsweredAt tells device from named p p' result
-
--- The first record of the reel in the drive `device` is read, at the reading stage of a look. The
--- read returns these bytes, or is refused with this number, or gets no reply.
-abbrev pub IsReadAt : {P : Type 0} → (P → List Passed → Type 0) → List ℕ → P → P → Result (Vec ℕ Global) LookFault → Type 0
-IsReadAt tells device p p' (Ok bytes) = Goes tells device Reading (after_read bytes.items) p p'
-IsReadAt tells device p p' (Err (Refused named n)) = Goes tells device Reading (Closing (Refusal named n)) p p'
-IsReadAt tells device p p' (Err (NoReply fault)) = Fails tells device Reading fault p p'
-
--- The first record of the reel was read, at the reading stage of a look, whatever the device. The
--- result has the record's bytes, or no bytes at a mark or at the end of the reel. Otherwise it has
--- the number with which the server refused the read, or why no reply came.
-abbrev pub IsFrontRead : {P : Type 0} → (P → List Passed → Type 0) → P → P → Result (Vec ℕ Global) LookFault → Type 0
-IsFrontRead tells p p' result = (device : List ℕ) → IsReadAt tells device p p' result
+-- the beginning of the first record was kept, or an allocation for it failed
+abbrev pub IsRecordKept : List ℕ → Result ReelFront TapeFault → Type 0
+IsRecordKept bytes (Ok front) = plain_front front ≡ Record bytes
+IsRecordKept bytes (Err fault) = (fault.request ≡ asked.Read) × (fault.cause ≡ NoReply OutOfMemory)

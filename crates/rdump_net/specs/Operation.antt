@@ -9,14 +9,14 @@ use Rattle.rmt_wire.specs.Request.{PlainRequest}
 use Rattle.rmt_wire.specs.Request.PlainRequest.{Open, Close, Op}
 use Rattle.rmt_wire.specs.declared.fcntl.TheConstants.{O_RDONLY, O_RDWR}
 use Rattle.rmt_wire.specs.declared.mtio.TheConstants.{MTWEOF}
-use Rattle.rdump_net.specs.Calls.{is_done, Stops, Extends, Finishes}
+use Rattle.remote_tape.specs.Calls.{is_done, Stops, Extends, Finishes}
 use Rattle.rdump_net.specs.Ends.{StreamEnds, StreamKind}
-use Rattle.rdump_net.specs.Peer.{Logs}
+use Rattle.remote_tape.specs.Peer.{Logs}
 use Rattle.exit_status.specs.declared.status.ExitStatus.{ExitStatus}
 use Rattle.exit_status.specs.declared.status.ExitStatus.TheVariants.{Success, Abnormal}
 use Rattle.rmt_wire.specs.Print.{IsPrinted}
-use Rattle.rdump_net.specs.declared.fault.CallFault.{CallFault}
-use Rattle.rdump_net.specs.declared.peer.Passed.{Passed}
+use Rattle.remote_tape.specs.declared.fault.CallFault.{CallFault}
+use Rattle.remote_tape.specs.declared.peer.Passed.{Passed}
 
 -- the mode of the open: for reading and writing if the operation writes marks, else for reading
 abbrev pub mode_for : ℕ → ℕ

@@ -10,36 +10,29 @@ use Rattle.std.specs.List.{concat}
 use Rattle.exit_status.specs.declared.status.ExitStatus.{ExitStatus}
 use Rattle.exit_status.specs.declared.status.ExitStatus.TheVariants.{Success, Abnormal}
 use Rattle.rmt_wire.specs.declared.fcntl.TheConstants.{O_RDONLY}
-use Rattle.rmt_wire.specs.declared.errno.TheConstants.{EIO}
-use Rattle.rmt_wire.specs.declared.mtio.TheConstants.{MTBSR, MTFSF, MTFSR, MTREW, MTOFFL}
-use Rattle.rmt_wire.specs.declared.limits.TheConstants.{NUMBER_LIMIT, RECORD_LIMIT}
+use Rattle.rmt_wire.specs.declared.mtio.TheConstants.{MTREW, MTOFFL}
+use Rattle.rmt_wire.specs.declared.limits.TheConstants.{RECORD_LIMIT}
 use Rattle.rmt_wire.specs.Reply.{PlainReply}
 use Rattle.rmt_wire.specs.Reply.PlainReply.{Done, Data, Error}
 use Rattle.rmt_wire.specs.Request.{PlainRequest}
 use Rattle.rmt_wire.specs.Request.PlainRequest.{Open, Close, Read, Op}
-use Rattle.rdump_net.specs.Calls.{is_done, CallsFollow, Stops, Extends}
+use Rattle.remote_tape.specs.Calls.{is_done, CallsFollow, Stops, Extends}
 use Rattle.rdump_net.specs.Ends.{CopyEnds, CopyKind, SinkEnds, SinkKind}
-use Rattle.rdump_net.specs.Peer.{Logs}
+use Rattle.remote_tape.specs.Peer.{Logs}
 use Rattle.rdump_net.specs.Sink.{SinkCall, Takes, blocks_from, calls_of}
 use Rattle.rdump_net.specs.Sink.SinkCall.{Mark, Complete}
 use Rattle.rmt_wire.specs.Print.{IsPrinted}
-use Rattle.rdump_net.specs.declared.kept_reply.KeptReply.{KeptReply}
-use Rattle.rdump_net.specs.declared.kept_reply.KeptReply.TheVariants as kept
-use Rattle.rdump_net.specs.declared.fault.VolumeRequest.{VolumeRequest}
-use Rattle.rdump_net.specs.declared.fault.VolumeRequest.TheVariants as asked
-use Rattle.rdump_net.specs.declared.fault.CallFault.{CallFault}
-use Rattle.rdump_net.specs.declared.fault.CallFault.TheVariants as call
+use Rattle.refusals.specs.declared.request.TapeRequest.{TapeRequest}
+use Rattle.remote_tape.specs.Search.{GoesOnBy, IsBeginningOf, IsMarkFound, IsMarkMissing, IsRefusedLast, IsUndetermined, next_back, next_close, records_of}
+use Rattle.remote_tape.specs.declared.fault.CallFault.{CallFault}
+use Rattle.remote_tape.specs.declared.fault.CallFault.TheVariants as call
+use Rattle.remote_tape.specs.declared.fault.TapeCause.{TapeCause}
+use Rattle.remote_tape.specs.declared.fault.TapeCause.TheVariants.{Refused, NoReply}
 use Rattle.rdump_net.specs.declared.fault.ReadFault.{ReadFault}
-use Rattle.rdump_net.specs.declared.fault.ReadFault.TheVariants.{Refused, ConnectionEnded, Botched, OutOfMemory, Stopped, NoMark, Undetermined}
-use Rattle.rdump_net.specs.declared.peer.Passed.{Passed}
+use Rattle.rdump_net.specs.declared.fault.ReadFault.TheVariants.{Tape, Stopped, NoMark, Undetermined}
+use Rattle.remote_tape.specs.declared.peer.Passed.{Passed}
 use Rattle.rdump_net.specs.declared.volume.AfterVolume.{AfterVolume}
 use Rattle.rdump_net.specs.declared.volume.AfterVolume.TheVariants.{Stay, Check, Offline}
-
--- the close, and nothing after it; like each `next_` below, this gives the next request after the
--- replies to those before it, or None at the end
-abbrev pub next_close : List PlainReply → Option PlainRequest
-next_close [] = Some Close
-next_close (closed ∷ more) = None
 
 -- Once the mark is found and the sink was asked to complete: nothing if it refused. If it accepted:
 -- the close, with `Offline` after taking the reel offline.
@@ -49,41 +42,6 @@ next_end Stay true replies = next_close replies
 next_end Check true replies = next_close replies
 next_end Offline true [] = Some (Op MTOFFL 1)
 next_end Offline true (taken ∷ replies) = if is_done taken then next_close replies else None
-
--- the next request, after these replies, when reading spaces over the mark behind the last record;
--- `at_mark` gives what follows once that is done; the close if the space is refused
-abbrev pub next_over : (List PlainReply → Option PlainRequest) → List PlainReply → Option PlainRequest
-next_over at_mark [] = Some (Op MTFSF 1)
-next_over at_mark (Done k ∷ replies) = at_mark replies
-next_over at_mark (Error k text ∷ replies) = next_close replies
-next_over at_mark (Data bytes ∷ replies) = None
-
--- the next request, after these replies, when reading spaces forward over the `n` records and then
--- over the mark, where `at_mark` gives what follows; the close if a space is refused; None at the
--- end, or if a reply does not fit
-abbrev pub next_forward : (List PlainReply → Option PlainRequest) → ℕ → List PlainReply → Option PlainRequest
-next_forward at_mark n [] = Some (Op MTFSR n)
-next_forward at_mark n (Done k ∷ replies) = next_over at_mark replies
-next_forward at_mark n (Error k text ∷ replies) = next_close replies
-next_forward at_mark n (Data bytes ∷ replies) = None
-
--- the next request, after these replies, when reading rewinds and then spaces forward over the `n`
--- records and the mark; the close if the rewind is refused, or if `n` records are too many for one
--- request; None at the end, or if a reply does not fit
-abbrev pub next_again : (List PlainReply → Option PlainRequest) → ℕ → List PlainReply → Option PlainRequest
-next_again at_mark n [] = Some (Op MTREW 1)
-next_again at_mark n (Done k ∷ replies) = if nat_lt NUMBER_LIMIT n then next_close replies else next_forward at_mark n replies
-next_again at_mark n (Error k text ∷ replies) = next_close replies
-next_again at_mark n (Data bytes ∷ replies) = None
-
--- The next request, after these replies, when reading spaces back over one record. If that is done,
--- there is no mark, and the close is next. If it is refused with EIO, as at a mark, reading rewinds
--- and spaces forward over the `n` records and the mark.
-abbrev pub next_back : (List PlainReply → Option PlainRequest) → ℕ → List PlainReply → Option PlainRequest
-next_back at_mark n [] = Some (Op MTBSR 1)
-next_back at_mark n (Done k ∷ replies) = next_close replies
-next_back at_mark n (Error k text ∷ replies) = if nat_eq k EIO then next_again at_mark n replies else next_close replies
-next_back at_mark n (Data bytes ∷ replies) = None
 
 -- after the last of `n` records: look for the mark, unless the reel stays unchecked
 abbrev pub next_mark : AfterVolume → Bool → ℕ → List PlainReply → Option PlainRequest
@@ -109,13 +67,6 @@ abbrev pub next_of : List ℕ → AfterVolume → Bool → List PlainReply → O
 next_of device after completed [] = Some (Open device O_RDONLY)
 next_of device after completed (opened ∷ []) = if is_done opened then Some (Op MTREW 1) else None
 next_of device after completed (opened ∷ rewound ∷ reads) = if is_done rewound then next_read after completed 0 reads else None
-
--- the records in the replies; the read at a mark adds an empty one
-abbrev pub records_of : List PlainReply → List (List ℕ)
-records_of [] = []
-records_of (Data bytes ∷ replies) = bytes ∷ records_of replies
-records_of (Done n ∷ replies) = records_of replies
-records_of (Error n text ∷ replies) = records_of replies
 
 -- no record but the last is empty
 abbrev pub OnlyTheLastIsEmpty : List (List ℕ) → Type 0
@@ -148,48 +99,12 @@ after_for_records after [] = Stay
 after_for_records after ([] ∷ records) = Stay
 after_for_records after ((b ∷ label) ∷ records) = after
 
--- `request` was made and got `reply`, which is one of `replies`; `next` gives the request that
--- follows some replies
-abbrev pub HasReply : (List PlainReply → Option PlainRequest) → List PlainReply → PlainRequest → PlainReply → Type 0
-HasReply next replies request reply =
-    (before : List PlainReply) × (rest : List PlainReply) × (replies ≡ before ++ reply ∷ rest) × (next before ≡ Some request)
-
--- a mark ends the records: spacing over it, behind the last record, was done
-abbrev pub IsMarkFound : (List PlainReply → Option PlainRequest) → List PlainReply → Type 0
-IsMarkFound next replies = (number : ℕ) × HasReply next replies (Op MTFSF 1) (Done number)
-
 -- what is known at success, when the sink was given `end` after the records: a mark was found and
 -- the sink was asked to complete; or with `Stay` neither
 abbrev pub IsEndKnown : (List PlainReply → Option PlainRequest) → AfterVolume → List PlainReply → List SinkCall → Type 0
 IsEndKnown next Stay replies end = end ≡ []
 IsEndKnown next Check replies end = IsMarkFound next replies × (end ≡ Mark ∷ Complete ∷ [])
 IsEndKnown next Offline replies end = IsMarkFound next replies × (end ≡ Mark ∷ Complete ∷ [])
-
--- no mark ends the records: spacing back over a record was done
-abbrev pub IsMarkMissing : (List PlainReply → Option PlainRequest) → List PlainReply → Type 0
-IsMarkMissing next replies = (number : ℕ) × HasReply next replies (Op MTBSR 1) (Done number)
-
--- a refusal, or a rewind after which there are too many records for one request
-abbrev pub StopsTheSearch : PlainRequest → PlainReply → Type 0
-StopsTheSearch request (Done n) = request ≡ Op MTREW 1
-StopsTheSearch request (Error n text) = Unit {0}
-StopsTheSearch request (Data bytes) = ⊥
-
--- whether a mark ends the records could not be determined: a reply stopped the search, and the
--- close is next
-abbrev pub IsUndetermined : (List PlainReply → Option PlainRequest) → List PlainReply → Type 0
-IsUndetermined next replies =
-    (request : PlainRequest) × (reply : PlainReply) × (before : List PlainReply) × (rest : List PlainReply)
-    × (replies ≡ before ++ reply ∷ rest) × (next before ≡ Some request) × (next (before ++ reply ∷ []) ≡ Some Close)
-    × StopsTheSearch request reply
-
--- a fault that names a request as `named` means this request
-abbrev pub IsNamed : VolumeRequest → PlainRequest → Type 0
-IsNamed asked.Open request = (device : List ℕ) × (request ≡ Open device O_RDONLY)
-IsNamed asked.Rewind request = request ≡ Op MTREW 1
-IsNamed asked.Read request = request ≡ Read RECORD_LIMIT
-IsNamed asked.Offline request = request ≡ Op MTOFFL 1
-IsNamed asked.Close request = request ≡ Close
 
 -- Where a sink can stop the read, when it was given `end` after the records. While it is given the
 -- records, a read would be next. Once it is asked to complete, a mark was found, and nothing is
@@ -198,18 +113,21 @@ abbrev pub IsStopped : (List PlainReply → Option PlainRequest) → List PlainR
 IsStopped next replies [] = next replies ≡ Some (Read RECORD_LIMIT)
 IsStopped next replies (call ∷ calls) = IsMarkFound next replies × (next replies ≡ None)
 
--- Why a volume was not read whole, given the replies so far, what the sink was given after the
--- records (`end`), and what passed. After `Refused` no request follows. With `NoMark` and
--- `Undetermined` all requests were made; the reply to the close, if any, does not matter.
-abbrev pub ReadFails : (List PlainReply → Option PlainRequest) → List SinkCall → List PlainReply → List Passed → ReadFault → Type 0
-ReadFails next end replies passed (Refused named number) =
-    CallsFollow next replies passed
-    × ((before : List PlainReply) × (text : List ℕ) × (request : PlainRequest) × (replies ≡ before ++ Error number text ∷ [])
-    × (next before ≡ Some request) × IsNamed named request × (next replies ≡ None))
-ReadFails next end replies passed ConnectionEnded = Stops next (Some call.ConnectionEnded) replies passed
-ReadFails next end replies passed Botched =
+-- Why a volume was not read whole, if a request with this name failed for this cause, given the
+-- replies so far and what passed. After `Refused` no request follows.
+abbrev pub TapeFails : (List PlainReply → Option PlainRequest) → List PlainReply → List Passed → TapeRequest → TapeCause → Type 0
+TapeFails next replies passed name (Refused number) =
+    CallsFollow next replies passed × IsRefusedLast next replies name number × (next replies ≡ None)
+TapeFails next replies passed name (NoReply call.ConnectionEnded) = Stops next (Some call.ConnectionEnded) replies passed
+TapeFails next replies passed name (NoReply call.Botched) =
     Stops next (Some call.Botched) replies passed ⊎ (CallsFollow next replies passed × (2 ^ 64 - 1 ≤ length replies))
-ReadFails next end replies passed OutOfMemory = Stops next (Some call.OutOfMemory) replies passed
+TapeFails next replies passed name (NoReply call.OutOfMemory) = Stops next (Some call.OutOfMemory) replies passed
+
+-- Why a volume was not read whole, given the replies so far, what the sink was given after the
+-- records (`end`), and what passed. With `NoMark` and `Undetermined` all requests were made; the
+-- reply to the close, if any, does not matter.
+abbrev pub ReadFails : (List PlainReply → Option PlainRequest) → List SinkCall → List PlainReply → List Passed → ReadFault → Type 0
+ReadFails next end replies passed (Tape fault) = TapeFails next replies passed fault.request fault.cause
 ReadFails next end replies passed Stopped = CallsFollow next replies passed × IsStopped next replies end
 ReadFails next end replies passed NoMark = (closing : Option CallFault) × Stops next closing replies passed × IsMarkMissing next replies
 ReadFails next end replies passed Undetermined =
@@ -219,10 +137,7 @@ ReadFails next end replies passed Undetermined =
 abbrev pub is_whole : Result Unit ReadFault → Bool
 is_whole (Ok x) = true
 is_whole (Err Stopped) = false
-is_whole (Err (Refused named number)) = true
-is_whole (Err ConnectionEnded) = true
-is_whole (Err Botched) = true
-is_whole (Err OutOfMemory) = true
+is_whole (Err (Tape fault)) = true
 is_whole (Err NoMark) = true
 is_whole (Err Undetermined) = true
 
@@ -322,10 +237,6 @@ IsVolumeReading n replies =
 abbrev pub IsVolumeRead : ℕ → List PlainReply → Type 0
 IsVolumeRead n replies = (before : List PlainReply) × IsVolumeReading n before × (replies ≡ before ++ Data [] ∷ [])
 
--- `b` begins with `a`
-abbrev pub IsBeginningOf : List PlainReply → List PlainReply → Type 0
-IsBeginningOf a b = (more : List PlainReply) × (b ≡ a ++ more)
-
 -- Further calls follow these replies, until one fails with `fault`, or the sink stops the read.
 -- Then `later` are all replies that came.
 pub record Breaks {P : Type 0} (next : List PlainReply → Option PlainRequest) (tells : P → List Passed → Type 0) (p p' : P)
@@ -360,13 +271,6 @@ abbrev pub IsDoneNext : {P : Type 0} → (P → List Passed → Type 0) → Plai
 IsDoneNext tells request p p' result =
     (next : List PlainReply → Option PlainRequest) (replies : List PlainReply) → next replies ≡ Some request
     → EndsAtRefusal next replies → IsDone next tells p p' replies result
-
--- the result is success if the reply says that the request was done, and else the reason
-abbrev pub IsDoneBy : KeptReply → VolumeRequest → Result Unit ReadFault → Type 0
-IsDoneBy answer named (Ok x) = (number : ℕ) × (answer ≡ kept.Done number)
-IsDoneBy answer named (Err fault) =
-    ((number : ℕ) × (text : Vec ℕ Global) × (answer ≡ kept.Error number text) × (fault ≡ Refused named number))
-    ⊎ ((bytes : Vec ℕ Global) × (answer ≡ kept.Data bytes))
 
 -- The first two calls of reading a volume. Ok: `device` was opened and rewound. Err: why it was
 -- not.
@@ -404,11 +308,6 @@ AreFurtherRecordsGiven kind old new result =
     (device : List ℕ) (after : AfterVolume) (completed : Bool) (replies : List PlainReply) → IsVolumeReading 1 replies
     → AreRecordsGiven (next_of device after completed) kind replies old new result
 
--- after `replies`, `next` gives the same requests as `step`, which sees only the replies that come
--- from then on
-abbrev pub GoesOnBy : (List PlainReply → Option PlainRequest) → (List PlainReply → Option PlainRequest) → List PlainReply → Type 0
-GoesOnBy next step replies = (ends : List PlainReply) → next (replies ++ ends) ≡ step ends
-
 -- calls up to the end of the records, of which there are `n`; from there `next_mark` gives the next
 -- requests
 abbrev pub ReadsVolume : {P : Type 0} → (List PlainReply → Option PlainRequest) → AfterVolume → Bool → (P → List Passed → Type 0) → P → P
@@ -434,47 +333,13 @@ IsGivenAtLabel kind old new result =
     (device : List ℕ) (after : AfterVolume) (completed : Bool) (seen : List PlainReply) → IsAtLabel seen
     → IsGiven (next_of device after completed) after completed kind seen old new result
 
--- One more call is made after `replies`, an operation. Ok None: it was done. Ok (Some number): it
--- was refused with this error number. Err: it got no reply.
-abbrev pub IsAnswered : {P : Type 0} → (List PlainReply → Option PlainRequest) → (P → List Passed → Type 0) → P → P → List PlainReply
-    → Result (Option ℕ) ReadFault → Type 0
-IsAnswered next tells p p' replies (Ok None) = (number : ℕ) × CallSteps next tells p p' replies (Ok (Done number))
-IsAnswered next tells p p' replies (Ok (Some number)) = (text : List ℕ) × CallSteps next tells p p' replies (Ok (Error number text))
-IsAnswered next tells p p' replies (Err fault) = CallSteps next tells p p' replies (Err fault)
-
 -- after `replies` no mark was found, and `fault` is why: there is none, or it could not be
 -- determined
 abbrev pub IsUnmarked : (List PlainReply → Option PlainRequest) → List PlainReply → ReadFault → Type 0
 IsUnmarked next replies NoMark = IsMarkMissing next replies
 IsUnmarked next replies Undetermined = IsUndetermined next replies
 IsUnmarked next replies Stopped = ⊥
-IsUnmarked next replies (Refused named number) = ⊥
-IsUnmarked next replies ConnectionEnded = ⊥
-IsUnmarked next replies Botched = ⊥
-IsUnmarked next replies OutOfMemory = ⊥
-
--- The result of looking for the mark after `replies`; `next` gives the request that follows some
--- replies. Ok None: the mark was found, and `at_mark` gives the next requests. Ok (Some fault): it
--- was not found, for this reason, and the close is next. Err: a call got no reply. `later` are all
--- replies that came until then; those of the search have no record.
-abbrev pub HasSoughtMark : {P : Type 0} → (List PlainReply → Option PlainRequest) → (List PlainReply → Option PlainRequest) → (P → List Passed → Type 0)
-    → P → P → List PlainReply → Result (Option ReadFault) ReadFault → Type 0
-HasSoughtMark next at_mark tells p p' replies (Ok None) =
-    (later : List PlainReply) × Extends next tells p p' replies later × (records_of later ≡ records_of replies)
-    × GoesOnBy next at_mark later × IsMarkFound next later
-HasSoughtMark next at_mark tells p p' replies (Ok (Some fault)) =
-    (later : List PlainReply) × Extends next tells p p' replies later × (records_of later ≡ records_of replies)
-    × GoesOnBy next next_close later × IsUnmarked next later fault
-HasSoughtMark next at_mark tells p p' replies (Err fault) = CallSteps next tells p p' replies (Err fault)
-
--- Whenever `step` gives the next requests, and `at_mark` those after the mark, this is the result
--- of looking for the mark. Ok None: it was found. Ok (Some fault): it was not found, for this
--- reason. Err: a call got no reply.
-abbrev pub IsLookedBy : {P : Type 0} → ((List PlainReply → Option PlainRequest) → List PlainReply → Option PlainRequest)
-    → (P → List Passed → Type 0) → P → P → Result (Option ReadFault) ReadFault → Type 0
-IsLookedBy step tells p p' result =
-    (at_mark : List PlainReply → Option PlainRequest) (next : List PlainReply → Option PlainRequest) (replies : List PlainReply)
-    → GoesOnBy next (step at_mark) replies → HasSoughtMark next at_mark tells p p' replies result
+IsUnmarked next replies (Tape fault) = ⊥
 
 -- the reel was taken offline, if `Offline` asks for it, and the close is next; or a call failed
 -- with the fault
@@ -560,9 +425,3 @@ pub record HasReadVolume {P S : Type 0} (kind : SinkKind P S) (device : List ℕ
   pub ending : IsEnding (next_of device after completed) (after_for_records after (records_of replies)) replies result end completed
   pub ends : (passed : List Passed) → CallsFollow (next_of device after completed) [] passed
       → ReadEnds (next_of device after completed) (after_for_records after (records_of replies)) end replies (passed ++ more) result
-
--- one call reads a record, or fails with the reason
-abbrev pub IsRecordRead : {P : Type 0} → (List PlainReply → Option PlainRequest) → (P → List Passed → Type 0) → P → P → List PlainReply
-    → Result (Vec ℕ Global) ReadFault → Type 0
-IsRecordRead next tells p p' replies (Ok bytes) = CallSteps next tells p p' replies (Ok (Data bytes.items))
-IsRecordRead next tells p p' replies (Err fault) = CallSteps next tells p p' replies (Err fault)

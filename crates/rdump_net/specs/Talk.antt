@@ -10,9 +10,9 @@ use Rattle.dump_client.specs.declared.fault.AttemptFault.{AttemptFault}
 use Rattle.dump_client.specs.declared.fault.StartFault.{StartFault}
 use Rattle.dump_client.specs.declared.stage.Answer.{Answer}
 use Rattle.dump_client.specs.declared.stage.Progress.{Progress}
-use Rattle.rdump_net.specs.Peer.{AreBytesSent, Logs, connected}
-use Rattle.rdump_net.specs.declared.peer.Passed.{Passed}
-use Rattle.rdump_net.specs.declared.peer.Passed.TheVariants.{Given, Ended}
+use Rattle.remote_tape.specs.Peer.{AreBytesSent, Logs, connected}
+use Rattle.remote_tape.specs.declared.peer.Passed.{Passed}
+use Rattle.remote_tape.specs.declared.peer.Passed.TheVariants.{Given, Ended}
 
 -- the connection stays open, and the client's state is unchanged; or the connection ended, and the
 -- client learned of it

@@ -1,56 +1,14 @@
-//! Why calls to a peer fail.
+//! Why reading a volume fails.
 use crate::sink::SinkStopped;
+use remote_tape::TapeFault;
 use thiserror::Error;
-
-/// Why a request got no reply.
-#[derive(Clone, Copy, Debug, PartialEq, Eq, Error)]
-pub enum CallFault {
-    /// The connection ended before the whole reply came.
-    #[error("the connection ended")]
-    ConnectionEnded,
-    /// The bytes that came are no reply to the request, or more than one reply.
-    #[error("no reply by the protocol")]
-    Botched,
-    /// An allocation for the request or its reply failed.
-    #[error("out of memory")]
-    OutOfMemory,
-}
-
-/// A request that reading a volume makes.
-#[derive(Clone, Copy, Debug, PartialEq, Eq, Error)]
-pub enum VolumeRequest {
-    /// The open of the device.
-    #[error("open")]
-    Open,
-    /// The rewind.
-    #[error("rewind")]
-    Rewind,
-    /// The read of a record.
-    #[error("read")]
-    Read,
-    /// The operation that takes the reel offline (MTOFFL).
-    #[error("offline")]
-    Offline,
-    /// The close.
-    #[error("close")]
-    Close,
-}
 
 /// Why a volume was not read whole.
 #[derive(Clone, Copy, Debug, PartialEq, Eq, Error)]
 pub enum ReadFault {
-    /// The server replied to this request with the error of this number.
-    #[error("{asked} refused with E{number}")]
-    Refused { asked: VolumeRequest, number: u32 },
-    /// No connection could be made, or it ended before the whole of the last reply came.
-    #[error("the connection ended")]
-    ConnectionEnded,
-    /// The bytes that came are no reply to the request, or more than one reply.
-    #[error("no reply by the protocol")]
-    Botched,
-    /// An allocation for a request or its reply failed.
-    #[error("out of memory")]
-    OutOfMemory,
+    /// A request failed, or there was no connection for the open.
+    #[error("{0}")]
+    Tape(TapeFault),
     /// The sink stopped the read. It keeps why.
     #[error("the read was stopped")]
     Stopped,
@@ -62,20 +20,16 @@ pub enum ReadFault {
     Undetermined,
 }
 
-impl From<CallFault> for ReadFault {
-    // from_gives: A `CallFault` becomes the `ReadFault` with the same name.
+impl From<TapeFault> for ReadFault {
+    // from_gives: A `TapeFault` becomes `ReadFault::Tape`, with that fault.
 
     ghost use Rattle.std.specs.Prelude.{◌≡◌};
-    ghost use Rattle.rdump_net.specs.DriveCalls.{read_fault};
+    ghost use Rattle.rdump_net.specs.declared.fault.ReadFault.TheVariants.{Tape};
 
-    ghost from_gives = { λ fault e. e ≡ read_fault fault };
+    ghost from_gives = { λ fault e. e ≡ Tape fault };
 
-    fn from(fault: CallFault) -> ReadFault {
-        match fault {
-            CallFault::ConnectionEnded => ReadFault::ConnectionEnded,
-            CallFault::Botched => ReadFault::Botched,
-            CallFault::OutOfMemory => ReadFault::OutOfMemory,
-        }
+    fn from(fault: TapeFault) -> ReadFault {
+        ReadFault::Tape(fault)
     }
 }
 

@@ -1,16 +1,16 @@
 //! Runs a dump over a connection: sends the client's requests to a tape server, and prints lines
 //! for the operator.
 //!
-//! `Peer` is the far end of a connection; `SocketPeer` reaches it over TCP, or over a Unix socket.
+//! `Peer`, of `remote_tape`, is the far end of a connection; `SocketPeer` reaches it over TCP, or
+//! over a Unix socket.
 //! `dump` makes a client write its volumes to a tape server, asks the operator after a failure, and
 //! prints each counted volume. `dump_kept` also keeps the checkpoint with a `Keeper`. `dump_booked`
 //! also enters each counted volume in a `CountBook`.
 //!
 //! `copy_volume` reads a volume back into a `VolumeSink`, and `read_volume` reads one into two
 //! streams. `mt` does one operation, and `look_at_reel` finds out what a reel begins with. Each
-//! uses a connection of its own and makes its calls with a `PeerCaller`: one request at a time,
-//! each with a `KeptReply`. `find_protection` decides from that beginning whether a dump may write
-//! on the reel.
+//! uses a connection of its own, and a `RemoteTape` of `remote_tape` for its requests.
+//! `find_protection` decides from that beginning whether a dump may write on the reel.
 //!
 //! # Contracts
 //!
@@ -40,17 +40,14 @@
 
 mod attempt;
 mod book;
-mod caller;
 mod conclusion;
 mod fault;
 mod keeper;
 mod kept;
-mod kept_reply;
 mod lines;
 mod look;
 mod operation;
 mod operator;
-mod peer;
 mod printing_sink;
 mod protection;
 mod rounds;
@@ -59,17 +56,15 @@ mod socket;
 mod volume;
 
 pub use book::CountBook;
-pub use caller::PeerCaller;
 pub use conclusion::Conclusion;
-pub use fault::{CallFault, ReadFault, VolumeRequest};
+pub use fault::ReadFault;
 pub use keeper::Keeper;
 pub use kept::{dump, dump_booked, dump_kept};
-pub use kept_reply::KeptReply;
 pub use lines::{LINE_ROOM, failure_line};
-pub use look::{LookFault, LookRequest, ReelFront, look_at_reel};
+pub use look::{ReelFront, look_at_reel};
 pub use operation::mt;
-pub use peer::{Passed, Peer};
 pub use protection::{Protection, find_protection};
+pub use remote_tape::{CallFault, Passed, Peer, TapeCause, TapeFault, TapeRequest};
 pub use sink::{SinkStopped, Verdict, VolumeSink};
 pub use socket::SocketPeer;
 pub use volume::{AfterVolume, copy_volume, read_volume};

@@ -1,31 +1,21 @@
 //! A look at the beginning of a drive's first reel, over a connection of its own. It writes
 //! nothing.
-ghost use Rattle.std.specs.Prelude.{◌≡◌, ℕ, List, Ok, Err, if◌then◌else◌, nat_eq};
-ghost use Rattle.rmt_wire.specs.Lent.{plain_request};
+ghost use Rattle.std.specs.Prelude.{◌≡◌, ℕ, List, Ok, Err, if◌then◌else◌};
 ghost use Rattle.rmt_wire.specs.Number.{IsLine};
-ghost use Rattle.rmt_wire.specs.Reply.Wanted.{Number};
-ghost use Rattle.rmt_wire.specs.Request as requests;
-ghost use Rattle.rdump_net.specs.Call.{wanted_by};
-ghost use Rattle.rdump_net.specs.Look.{IsAnswered, IsFrontRead, IsLook, IsLookPart, plain_front};
+ghost use Rattle.rmt_wire.specs.declared.errno.TheConstants.{EIO};
+ghost use Rattle.remote_tape.specs.Tape.{is_refused_with};
+ghost use Rattle.rdump_net.specs.Look.{IsLook, IsLookPart, IsRecordKept, plain_front};
 ghost use Rattle.rdump_net.specs.Look.Finding.{Front, Refusal};
 ghost use Rattle.rdump_net.specs.Look.LookStage.{Opening, Rewinding, RewindingAgain, Closing, Closed};
 ghost use Rattle.rdump_net.specs.declared.look.ReelFront.TheVariants as fronts;
-ghost use Rattle.rdump_net.specs.declared.look.LookRequest.TheVariants as asked;
-ghost use Rattle.rdump_net.specs.declared.look.LookFault.TheVariants as faults;
-ghost use Rattle.rmt_wire.specs.declared.errno.TheConstants.{EIO};
-ghost use Rattle.rmt_wire.specs.declared.mtio.TheConstants.{MTREW};
 
 use crate::Peer;
-use crate::caller::PeerCaller;
-use crate::fault::CallFault;
-use crate::kept_reply::KeptReply;
 use dump_run::LABEL_BYTES;
-use rmt_wire::Request;
+use remote_tape::{CallFault, RemoteTape, TapeCause, TapeFault, TapeRequest};
 use rmt_wire::errno::EIO;
 use rmt_wire::fcntl::O_RDONLY;
-use rmt_wire::mtio::{MTFSF, MTREW};
+use rmt_wire::mtio::MTFSF;
 use std::alloc::Global;
-use thiserror::Error;
 
 /// The beginning of a reel.
 #[derive(Drop)]
@@ -36,36 +26,6 @@ pub enum ReelFront {
     Mark,
     /// Nothing: the reel is empty.
     Empty,
-}
-
-/// A request that a look makes.
-#[derive(Clone, Copy, Debug, PartialEq, Eq, Error)]
-pub enum LookRequest {
-    /// The open of the device.
-    #[error("open")]
-    Open,
-    /// A rewind.
-    #[error("rewind")]
-    Rewind,
-    /// The read of the first record.
-    #[error("read")]
-    Read,
-    /// The operation that spaces over a mark.
-    #[error("space")]
-    Space,
-    /// The close.
-    #[error("close")]
-    Close,
-}
-
-/// Why a look failed.
-#[derive(Clone, Copy, Debug, PartialEq, Eq)]
-pub enum LookFault {
-    /// The server replied to this request with the error of this number. A space that is refused
-    /// with `EIO` is no failure: it shows that the reel is empty.
-    Refused { asked: LookRequest, number: u32 },
-    /// There is no reply to a request, for this reason.
-    NoReply(CallFault),
 }
 
 /// Finds out what the first reel of a drive begins with, over a new connection.
@@ -80,15 +40,14 @@ pub enum LookFault {
 ///
 /// The device is one line of at most `LINE_LIMIT` bytes.
 ///
-/// Fails with `LookFault::Refused` and the first request that was refused, which may be the close.
-/// A space that shows that the reel is empty does not count as refused.
-/// Fails with `LookFault::NoReply` if no connection could be made, an allocation failed, no reply
-/// came, or the bytes that came are no reply.
+/// Fails with the first request that was refused, which may be the close. A space that shows that
+/// the reel is empty does not count as refused. Fails with `NoReply` if no connection could be made,
+/// an allocation failed, no reply came, or the bytes that came are no reply.
 pub fn look_at_reel<P: Peer>(
     alloc: Global,
     peer: &mut P,
     device: &[u8],
-) -> Result<ReelFront, LookFault>
+) -> Result<ReelFront, TapeFault>
     requires { IsLine device.now }
     // If the peer's log is known, the call sends an open for reading, a rewind, a read of 1,024
     // bytes, and a close. If the read returns no record, the call sends a rewind and MTFSF 1
@@ -105,165 +64,122 @@ pub fn look_at_reel<P: Peer>(
     // If a request gets no reply, the call returns the reason.
     ensures { IsLook P.tells device.now peer.old peer.new result }
 {
-    let Ok(mut caller) = PeerCaller::new(alloc) else {
-        return Err(LookFault::NoReply(CallFault::OutOfMemory));
+    let Ok(mut tape) = RemoteTape::new(alloc) else {
+        return Err(TapeFault::unopened(CallFault::OutOfMemory));
     };
     if !peer.connect() {
-        return Err(LookFault::NoReply(CallFault::ConnectionEnded));
+        return Err(TapeFault::unopened(CallFault::ConnectionEnded));
     }
-    let found = look_over(&mut caller, peer, device);
+    let found = look_over(alloc, &mut tape, peer, device);
     peer.hang_up();
     found
 }
 
 /// Makes all requests of a look over the open connection.
 fn look_over<P: Peer>(
-    caller: &mut PeerCaller,
+    alloc: Global,
+    tape: &mut RemoteTape,
     peer: &mut P,
     device: &[u8],
-) -> Result<ReelFront, LookFault>
+) -> Result<ReelFront, TapeFault>
     requires { IsLine device.now }
     ensures { IsLookPart P.tells device.now Opening Closed peer.old peer.new result }
 {
-    let open = Request::Open {
-        device,
-        mode: O_RDONLY,
-    };
-    ask(caller, peer, LookRequest::Open, &open)?;
-    match find_front(caller, peer) {
-        Ok(front) => close_found(caller, peer, front),
-        Err(LookFault::Refused { asked, number }) => {
-            Err(close_refused(caller, peer, asked, number))
-        }
-        Err(LookFault::NoReply(fault)) => Err(LookFault::NoReply(fault)),
+    tape.open(peer, device, O_RDONLY)?;
+    match find_front(alloc, tape, peer) {
+        Ok(front) => close_found(tape, peer, front),
+        Err(fault) => match fault.cause {
+            TapeCause::Refused(number) => Err(close_refused(tape, peer, fault.request, number)),
+            TapeCause::NoReply(_) => Err(fault),
+        },
     }
 }
 
 /// Finds out what the reel in the opened drive begins with.
-fn find_front<P: Peer>(caller: &mut PeerCaller, peer: &mut P) -> Result<ReelFront, LookFault>
+fn find_front<P: Peer>(
+    alloc: Global,
+    tape: &mut RemoteTape,
+    peer: &mut P,
+) -> Result<ReelFront, TapeFault>
     ensures { (device : List ℕ) → IsLookPart P.tells device Rewinding Closing peer.old peer.new result }
 {
-    rewind(caller, peer)?;
-    let first = read_front(caller, peer)?;
+    tape.rewind(peer)?;
+    let first = tape.read(peer, LABEL_BYTES as u32)?;
     if first.is_empty() {
-        return find_mark(caller, peer);
+        return find_mark(tape, peer);
     }
-    Ok(ReelFront::Record(first))
+    keep_record(alloc, first)
+}
+
+/// Keeps the beginning of the first record. Fails if the allocation for it fails.
+fn keep_record(alloc: Global, first: &[u8]) -> Result<ReelFront, TapeFault>
+    ensures { IsRecordKept first.now result }
+{
+    match Vec::from_slice(alloc, first) {
+        Ok(bytes) => Ok(ReelFront::Record(bytes)),
+        Err(_) => Err(TapeFault {
+            request: TapeRequest::Read,
+            cause: TapeCause::NoReply(CallFault::OutOfMemory),
+        }),
+    }
 }
 
 /// Finds out whether the reel begins with a mark or is empty, after a read returned no bytes.
-fn find_mark<P: Peer>(caller: &mut PeerCaller, peer: &mut P) -> Result<ReelFront, LookFault>
+fn find_mark<P: Peer>(tape: &mut RemoteTape, peer: &mut P) -> Result<ReelFront, TapeFault>
     ensures { (device : List ℕ) → IsLookPart P.tells device RewindingAgain Closing peer.old peer.new result }
 {
-    rewind(caller, peer)?;
-    let space = Request::Op {
-        op: MTFSF,
-        count: 1,
-    };
-    match ask(caller, peer, LookRequest::Space, &space) {
+    tape.rewind(peer)?;
+    match tape.space(peer, MTFSF, 1) {
         Ok(()) => Ok(ReelFront::Mark),
-        Err(LookFault::Refused { number, .. }) => no_mark(number),
-        Err(LookFault::NoReply(fault)) => Err(LookFault::NoReply(fault)),
+        Err(fault) => no_mark(fault),
     }
 }
 
-/// Returns what it means that spacing over a mark was refused with this number: with `EIO` the reel
-/// is empty; any other is a fault.
-fn no_mark(number: u32) -> Result<ReelFront, LookFault>
-    ensures { result ≡ (if nat_eq number EIO then Ok fronts.Empty else Err (faults.Refused asked.Space number)) }
+/// Returns what it means that spacing over a mark failed with this fault: if it was refused with
+/// `EIO`, the reel is empty; otherwise it is the fault of the look.
+fn no_mark(fault: TapeFault) -> Result<ReelFront, TapeFault>
+    ensures { result ≡ (if is_refused_with EIO fault.cause then Ok fronts.Empty else Err fault) }
 {
-    if number == EIO {
+    if fault.cause.is_refused_with(EIO) {
         return Ok(ReelFront::Empty);
     }
-    Err(LookFault::Refused {
-        asked: LookRequest::Space,
-        number,
-    })
+    Err(fault)
 }
 
 /// Closes the device, and returns the `front` that was found. Fails if the close is refused or gets
 /// no reply.
 fn close_found<P: Peer>(
-    caller: &mut PeerCaller,
+    tape: &mut RemoteTape,
     peer: &mut P,
     front: ReelFront,
-) -> Result<ReelFront, LookFault>
+) -> Result<ReelFront, TapeFault>
     ensures { (device : List ℕ) → IsLookPart P.tells device (Closing (Front (plain_front front))) Closed
         peer.old peer.new result }
 {
-    ask(caller, peer, LookRequest::Close, &Request::Close)?;
+    tape.close(peer)?;
     Ok(front)
 }
 
 /// Closes the device after `refused` was refused with this number. Returns why the look failed:
-/// that refusal, whatever the reply to the close, or `NoReply` if the close gets none.
+/// that refusal, whatever the reply to the close, or the fault of the close if it gets none.
 fn close_refused<P: Peer>(
-    caller: &mut PeerCaller,
+    tape: &mut RemoteTape,
     peer: &mut P,
-    refused: LookRequest,
+    refused: TapeRequest,
     number: u32,
-) -> LookFault
+) -> TapeFault
     ensures { (device : List ℕ) → IsLookPart P.tells device (Closing (Refusal refused number)) Closed
         peer.old peer.new (Err result) }
 {
-    match ask(caller, peer, LookRequest::Close, &Request::Close) {
-        Ok(()) => LookFault::Refused {
-            asked: refused,
-            number,
-        },
-        Err(LookFault::Refused { .. }) => LookFault::Refused {
-            asked: refused,
-            number,
-        },
-        Err(LookFault::NoReply(fault)) => LookFault::NoReply(fault),
-    }
-}
-
-/// Rewinds the reel.
-fn rewind<P: Peer>(caller: &mut PeerCaller, peer: &mut P) -> Result<(), LookFault>
-    ensures { IsAnswered P.tells asked.Rewind (requests.PlainRequest.Op MTREW 1) peer.old peer.new result }
-{
-    let rewind = Request::Op {
-        op: MTREW,
-        count: 1,
+    let fault = TapeFault {
+        request: refused,
+        cause: TapeCause::Refused(number),
     };
-    ask(caller, peer, LookRequest::Rewind, &rewind)
-}
-
-/// Makes a request whose reply is a number. Fails if it is refused or gets no valid reply.
-fn ask<P: Peer>(
-    caller: &mut PeerCaller,
-    peer: &mut P,
-    asked: LookRequest,
-    request: &Request<'_>,
-) -> Result<(), LookFault>
-    requires spelling { requests.HasSpelling (plain_request request.now) }
-    requires number { wanted_by (plain_request request.now) ≡ Number }
-    ensures { IsAnswered P.tells asked (plain_request request.now) peer.old peer.new result }
-{
-    match caller.call(peer, request) {
-        Ok(KeptReply::Done { .. }) => Ok(()),
-        Ok(KeptReply::Error { number, .. }) => Err(LookFault::Refused { asked, number }),
-        Ok(KeptReply::Data { .. }) => Err(LookFault::NoReply(CallFault::Botched)),
-        Err(fault) => Err(LookFault::NoReply(fault)),
-    }
-}
-
-/// Reads the beginning of the first record, at most 1,024 bytes. Returns nothing at a mark or at
-/// the end of the reel.
-fn read_front<P: Peer>(caller: &mut PeerCaller, peer: &mut P) -> Result<Vec<u8>, LookFault>
-    ensures { IsFrontRead P.tells peer.old peer.new result }
-{
-    let read = Request::Read {
-        count: LABEL_BYTES as u32,
-    };
-    match caller.call(peer, &read) {
-        Ok(KeptReply::Data { bytes }) => Ok(bytes),
-        Ok(KeptReply::Error { number, .. }) => Err(LookFault::Refused {
-            asked: LookRequest::Read,
-            number,
-        }),
-        Ok(KeptReply::Done { .. }) => Err(LookFault::NoReply(CallFault::Botched)),
-        Err(fault) => Err(LookFault::NoReply(fault)),
+    match tape.close(peer) {
+        Ok(()) => fault,
+        Err(closing) => match closing.cause {
+            TapeCause::Refused(_) => fault,
+            TapeCause::NoReply(_) => closing,
+        },
     }
 }

@@ -3,17 +3,15 @@ ghost use Rattle.std.specs.Prelude.{◌≡◌, ◌≤◌, ◌+◌, ◌++◌, cod
 ghost use Rattle.rmt_wire.specs.Number.{IsLine};
 ghost use Rattle.rmt_wire.specs.declared.limits.TheConstants.{NUMBER_LIMIT};
 ghost use Rattle.rdump_net.specs.Ends.{stream_ends, stream_kind};
-ghost use Rattle.rdump_net.specs.KeptReply.{plain_kept, plain_result};
+ghost use Rattle.remote_tape.specs.Call.{plain_number, plain_result};
 ghost use Rattle.rdump_net.specs.Operation.{mode_for, next_of, reply_line, IsMt, IsOperated, IsOperationReply, IsReplyPrinted};
 ghost use Rattle.rmt_wire.specs.Print.{IsPrinted};
 
 use crate::Peer;
-use crate::caller::PeerCaller;
-use crate::fault::CallFault;
-use crate::kept_reply::KeptReply;
 use crate::lines::{LINE_ROOM, push_part};
 use arrayvec::ArrayString;
 use exit_status::ExitStatus;
+use remote_tape::{CallFault, RemoteTape, TapeReply};
 use rmt_wire::fcntl::{O_RDONLY, O_RDWR};
 use rmt_wire::mtio::MTWEOF;
 use rmt_wire::{Counted, Request, print_text};
@@ -56,20 +54,20 @@ pub fn mt<P: Peer, W: Write>(
     ensures { IsMt (stream_kind P.tells W.contents) device.now op count
         (stream_ends peer.old out.old) (stream_ends peer.new out.new) result }
 {
-    let Ok(mut caller) = PeerCaller::new(alloc) else {
+    let Ok(mut tape) = RemoteTape::new(alloc) else {
         return ExitStatus::Abnormal;
     };
     if !peer.connect() {
         return ExitStatus::Abnormal;
     }
-    let status = operate(&mut caller, peer, device, op, count, out);
+    let status = operate(&mut tape, peer, device, op, count, out);
     peer.hang_up();
     status
 }
 
 /// Does the operation over the open connection, and prints its reply. Returns the exit status.
 fn operate<P: Peer, W: Write>(
-    caller: &mut PeerCaller,
+    tape: &mut RemoteTape,
     peer: &mut P,
     device: &[u8],
     op: u32,
@@ -82,34 +80,34 @@ fn operate<P: Peer, W: Write>(
     ensures { IsOperated (stream_kind P.tells W.contents) device.now op count
         (stream_ends peer.old out.old) (stream_ends peer.new out.new) result }
 {
-    let Ok(answer) = ask(caller, peer, device, op, count) else {
+    let Ok(answer) = ask(tape, peer, device, op, count) else {
         return ExitStatus::Abnormal;
     };
     let status = print_reply(&answer, out);
-    let _ = caller.call(peer, &Request::Close);
+    let _ = tape.close(peer);
     status
 }
 
 /// Opens the device and requests the operation. Returns the reply to the operation, or that to the
 /// open if the open is refused. Fails if a request gets no reply.
 fn ask<P: Peer>(
-    caller: &mut PeerCaller,
+    tape: &mut RemoteTape,
     peer: &mut P,
     device: &[u8],
     op: u32,
     count: u32,
-) -> Result<KeptReply, CallFault>
+) -> Result<TapeReply, CallFault>
     requires device { IsLine device.now }
     requires op { op ≤ NUMBER_LIMIT }
     requires count { count ≤ NUMBER_LIMIT }
     ensures { IsOperationReply (next_of device.now op count) P.tells peer.old peer.new (plain_result result) }
 {
     let mode = mode_of(op);
-    let opened = caller.call(peer, &Request::Open { device, mode })?;
+    let opened = tape.call(peer, &Request::Open { device, mode })?;
     if !opened.is_done() {
         return Ok(opened);
     }
-    caller.call(peer, &Request::Op { op, count })
+    tape.call(peer, &Request::Op { op, count })
 }
 
 /// Returns the mode in which the device is opened for this operation.
@@ -120,8 +118,8 @@ fn mode_of(op: u32) -> u32
 }
 
 /// Prints a reply. Returns the exit status.
-fn print_reply<W: Write>(answer: &KeptReply, out: &mut Counted<W>) -> ExitStatus
-    ensures { IsReplyPrinted W.contents (plain_kept answer.now) out.old out.new result }
+fn print_reply<W: Write>(answer: &TapeReply, out: &mut Counted<W>) -> ExitStatus
+    ensures { IsReplyPrinted W.contents (plain_number answer.now) out.old out.new result }
 {
     let printed = print_answer(answer, out);
     if answer.is_done() && printed {
@@ -132,13 +130,12 @@ fn print_reply<W: Write>(answer: &KeptReply, out: &mut Counted<W>) -> ExitStatus
 }
 
 /// Prints the line of a reply. Returns whether it was printed.
-fn print_answer<W: Write>(answer: &KeptReply, out: &mut Counted<W>) -> bool
-    ensures { IsPrinted W.contents (reply_line (plain_kept answer.now)) out.old out.new result }
+fn print_answer<W: Write>(answer: &TapeReply, out: &mut Counted<W>) -> bool
+    ensures { IsPrinted W.contents (reply_line (plain_number answer.now)) out.old out.new result }
 {
     match answer {
-        KeptReply::Done { number } => print_number(out, "A", u64::from(*number), "\n"),
-        KeptReply::Data { bytes } => print_number(out, "A", bytes.len() as u64, "\n"),
-        KeptReply::Error { number, text } => {
+        TapeReply::Done { number } => print_number(out, "A", *number, "\n"),
+        TapeReply::Error { number, text } => {
             print_number(out, "E", u64::from(*number), " ") && print_line(out, text)
         }
     }

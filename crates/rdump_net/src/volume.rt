@@ -1,29 +1,24 @@
 //! Reading a volume back over a peer.
 //!
 //! A peer is the far end of a connection: what is sent over it goes through that connection.
-ghost use Rattle.std.specs.Prelude.{◌≡◌, ◌≤◌, Bool};
-ghost use Rattle.rmt_wire.specs.Lent.{plain_request};
-ghost use Rattle.rmt_wire.specs.declared.limits.TheConstants.{NUMBER_LIMIT};
+ghost use Rattle.std.specs.Prelude.{◌≡◌, Bool};
 ghost use Rattle.rmt_wire.specs.Number.{IsLine};
-ghost use Rattle.rmt_wire.specs.Reply.Wanted.{Number};
 ghost use Rattle.rmt_wire.specs.Request as requests;
-ghost use Rattle.rdump_net.specs.Call.{wanted_by};
 ghost use Rattle.rdump_net.specs.Ends.{copy_ends, copy_kind, sink_ends, sink_kind};
 ghost use Rattle.rdump_net.specs.Reading as spec;
-ghost use Rattle.rdump_net.specs.Reading.{AreFurtherRecordsGiven, IsBegun, IsClosedUnmarked, IsConcludedAtEnd, IsConcludedAtMark, IsConcludedBySearch, IsDoneBy, IsDoneNext, IsGivenAtLabel, IsLookedBy, IsNamed, IsRead, IsReadStatus, IsTakenAwayAtMark, IsTakenAwayOnlyIfKept, IsVolumeCopied, HasReadVolume};
+ghost use Rattle.rdump_net.specs.Reading.{AreFurtherRecordsGiven, IsBegun, IsClosedUnmarked, IsConcludedAtEnd, IsConcludedAtMark, IsConcludedBySearch, IsDoneNext, IsGivenAtLabel, IsRead, IsReadStatus, IsTakenAwayAtMark, IsTakenAwayOnlyIfKept, IsVolumeCopied, HasReadVolume};
 ghost use Rattle.rdump_net.specs.declared.volume.AfterVolume.{AfterVolume};
 
 use crate::Peer;
-use crate::caller::PeerCaller;
-use crate::fault::{ReadFault, VolumeRequest};
-use crate::kept_reply::KeptReply;
+use crate::fault::ReadFault;
 use crate::printing_sink::Outputs;
 use crate::sink::{Verdict, VolumeSink};
 use exit_status::ExitStatus;
-use rmt_wire::errno::EIO;
+use remote_tape::{
+    CallFault, MarkSearch, RemoteTape, TapeCause, TapeFault, TapeRequest, find_mark,
+};
 use rmt_wire::fcntl::O_RDONLY;
-use rmt_wire::mtio::{MTBSR, MTFSF, MTFSR, MTOFFL, MTREW};
-use rmt_wire::{Counted, NUMBER_LIMIT, Request};
+use rmt_wire::{Counted, RECORD_LIMIT};
 use std::alloc::Global;
 use std::io::Write;
 
@@ -173,13 +168,13 @@ pub fn copy_volume<P: Peer, S: VolumeSink>(
     ensures kept { IsTakenAwayOnlyIfKept (sink_kind P.tells S.takes) device.now after
         (sink_ends peer.old sink.old) (sink_ends peer.new sink.new) result }
 {
-    let Ok(mut caller) = PeerCaller::new(alloc) else {
-        return Err(ReadFault::OutOfMemory);
+    let Ok(mut tape) = RemoteTape::new(alloc) else {
+        return Err(ReadFault::Tape(TapeFault::unopened(CallFault::OutOfMemory)));
     };
     if !peer.connect() {
-        return Err(ReadFault::ConnectionEnded);
+        return Err(ReadFault::Tape(TapeFault::unopened(CallFault::ConnectionEnded)));
     }
-    let result = go_through(&mut caller, peer, device, after, sink);
+    let result = go_through(&mut tape, peer, device, after, sink);
     peer.hang_up();
     result
 }
@@ -187,7 +182,7 @@ pub fn copy_volume<P: Peer, S: VolumeSink>(
 /// Makes all calls of reading a volume, over the open connection. `after` says what to do with the
 /// reel once its volume was read whole.
 fn go_through<P: Peer, S: VolumeSink>(
-    caller: &mut PeerCaller,
+    tape: &mut RemoteTape,
     peer: &mut P,
     device: &[u8],
     after: AfterVolume,
@@ -197,26 +192,19 @@ fn go_through<P: Peer, S: VolumeSink>(
     ensures { HasReadVolume (sink_kind P.tells S.takes) device.now after
         (sink_ends peer.old sink.old) (sink_ends peer.new sink.new) result }
 {
-    begin(caller, peer, device)?;
-    let records = give_volume(caller, peer, sink)?;
-    conclude(caller, peer, after_for_count(after, records), records, sink)
+    begin(tape, peer, device)?;
+    let records = give_volume(tape, peer, sink)?;
+    conclude(tape, peer, after_for_count(after, records), records, sink)
 }
 
 /// Opens the device and rewinds it.
-fn begin<P: Peer>(caller: &mut PeerCaller, peer: &mut P, device: &[u8]) -> Result<(), ReadFault>
+fn begin<P: Peer>(tape: &mut RemoteTape, peer: &mut P, device: &[u8]) -> Result<(), ReadFault>
     requires { IsLine device.now }
     ensures { (after : AfterVolume) (completed : Bool) → IsBegun P.tells device.now after completed peer.old peer.new result }
 {
-    let open = Request::Open {
-        device,
-        mode: O_RDONLY,
-    };
-    ask(caller, peer, VolumeRequest::Open, &open)?;
-    let rewind = Request::Op {
-        op: MTREW,
-        count: 1,
-    };
-    ask(caller, peer, VolumeRequest::Rewind, &rewind)
+    tape.open(peer, device, O_RDONLY)?;
+    tape.rewind(peer)?;
+    Ok(())
 }
 
 /// Returns what to do with a reel of which this many records were read. If there were none, it
@@ -234,7 +222,7 @@ fn after_for_count(after: AfterVolume, records: u64) -> AfterVolume
 /// Ends the read after `records` records: looks for the mark unless `goes` is `Stay`, and closes
 /// the device.
 fn conclude<P: Peer, S: VolumeSink>(
-    caller: &mut PeerCaller,
+    tape: &mut RemoteTape,
     peer: &mut P,
     goes: AfterVolume,
     records: u64,
@@ -244,14 +232,24 @@ fn conclude<P: Peer, S: VolumeSink>(
         (sink_ends peer.old sink.old) (sink_ends peer.new sink.new) result }
 {
     match goes {
-        AfterVolume::Stay => ask(caller, peer, VolumeRequest::Close, &Request::Close),
-        AfterVolume::Check | AfterVolume::Offline => search(caller, peer, goes, records, sink),
+        AfterVolume::Stay => close(tape, peer),
+        AfterVolume::Check | AfterVolume::Offline => search(tape, peer, goes, records, sink),
+    }
+}
+
+/// Closes the device at the end of a read.
+fn close<P: Peer>(tape: &mut RemoteTape, peer: &mut P) -> Result<(), ReadFault>
+    ensures { IsDoneNext P.tells requests.PlainRequest.Close peer.old peer.new result }
+{
+    match tape.close(peer) {
+        Ok(()) => Ok(()),
+        Err(fault) => Err(ReadFault::Tape(fault)),
     }
 }
 
 /// Looks for the mark after `records` records, and ends the read with or without it.
 fn search<P: Peer, S: VolumeSink>(
-    caller: &mut PeerCaller,
+    tape: &mut RemoteTape,
     peer: &mut P,
     goes: AfterVolume,
     records: u64,
@@ -260,17 +258,19 @@ fn search<P: Peer, S: VolumeSink>(
     ensures { IsConcludedBySearch (sink_kind P.tells S.takes) goes records
         (sink_ends peer.old sink.old) (sink_ends peer.new sink.new) result }
 {
-    match look_back(caller, peer, records) {
-        Ok(None) => conclude_at_mark(caller, peer, goes, sink),
-        Ok(Some(fault)) => close_unmarked(caller, peer, fault),
-        Err(fault) => Err(fault),
+    match find_mark(tape, peer, records) {
+        Ok(MarkSearch::Found) => conclude_at_mark(tape, peer, goes, sink),
+        Ok(MarkSearch::Missing) => close_unmarked(tape, peer, ReadFault::NoMark),
+        Ok(MarkSearch::Refused { .. }) => close_unmarked(tape, peer, ReadFault::Undetermined),
+        Ok(MarkSearch::TooManyRecords) => close_unmarked(tape, peer, ReadFault::Undetermined),
+        Err(fault) => Err(ReadFault::Tape(fault)),
     }
 }
 
 /// Gives the sink the mark and asks it to complete. Then takes the reel offline, if `goes` is
 /// `Offline`, and closes the device.
 fn conclude_at_mark<P: Peer, S: VolumeSink>(
-    caller: &mut PeerCaller,
+    tape: &mut RemoteTape,
     peer: &mut P,
     goes: AfterVolume,
     sink: &mut S,
@@ -280,101 +280,25 @@ fn conclude_at_mark<P: Peer, S: VolumeSink>(
 {
     sink.mark();
     sink.complete()?;
-    take_away(caller, peer, goes)?;
-    ask(caller, peer, VolumeRequest::Close, &Request::Close)
+    take_away(tape, peer, goes)?;
+    close(tape, peer)
 }
 
 /// Closes the device after no mark was found. It ignores the reply, and fails with `fault`.
 fn close_unmarked<P: Peer>(
-    caller: &mut PeerCaller,
+    tape: &mut RemoteTape,
     peer: &mut P,
     fault: ReadFault,
 ) -> Result<(), ReadFault>
     ensures { IsClosedUnmarked P.tells fault peer.old peer.new result }
 {
-    let _ = caller.call(peer, &Request::Close);
+    let _ = tape.close(peer);
     Err(fault)
 }
 
-/// Spaces back over one record. This succeeds only if the last read met the end of the reel: then a
-/// record is right before this place.
-///
-/// Returns None if the mark was found, else why it was not found: `NoMark` or `Undetermined`. Fails
-/// if a request gets no valid reply.
-fn look_back<P: Peer>(
-    caller: &mut PeerCaller,
-    peer: &mut P,
-    records: u64,
-) -> Result<Option<ReadFault>, ReadFault>
-    ensures { IsLookedBy (λ at_mark. spec.next_back at_mark records) P.tells peer.old peer.new result }
-{
-    match caller.operate(peer, MTBSR, 1) {
-        Ok(None) => Ok(Some(ReadFault::NoMark)),
-        Ok(Some(number)) => {
-            if number == EIO {
-                look_again(caller, peer, records)
-            } else {
-                Ok(Some(ReadFault::Undetermined))
-            }
-        }
-        Err(fault) => Err(fault),
-    }
-}
-
-/// Goes to the mark from the beginning, after spacing back was refused: a mark stopped it, or the
-/// device failed. If there are more records than one request can name, returns `Undetermined`.
-fn look_again<P: Peer>(
-    caller: &mut PeerCaller,
-    peer: &mut P,
-    records: u64,
-) -> Result<Option<ReadFault>, ReadFault>
-    ensures { IsLookedBy (λ at_mark. spec.next_again at_mark records) P.tells peer.old peer.new result }
-{
-    match caller.operate(peer, MTREW, 1) {
-        Ok(None) => {
-            if u64::from(NUMBER_LIMIT) < records {
-                Ok(Some(ReadFault::Undetermined))
-            } else {
-                look_forward(caller, peer, records as u32)
-            }
-        }
-        Ok(Some(_)) => Ok(Some(ReadFault::Undetermined)),
-        Err(fault) => Err(fault),
-    }
-}
-
-/// Spaces over this many records from the beginning, and then over the mark behind them.
-fn look_forward<P: Peer>(
-    caller: &mut PeerCaller,
-    peer: &mut P,
-    records: u32,
-) -> Result<Option<ReadFault>, ReadFault>
-    requires { records ≤ NUMBER_LIMIT }
-    ensures { IsLookedBy (λ at_mark. spec.next_forward at_mark records) P.tells peer.old peer.new result }
-{
-    match caller.operate(peer, MTFSR, records) {
-        Ok(None) => look_over(caller, peer),
-        Ok(Some(_)) => Ok(Some(ReadFault::Undetermined)),
-        Err(fault) => Err(fault),
-    }
-}
-
-/// Spaces over a mark right behind the last record. Returns None if that is done, and
-/// `Undetermined` if it is refused.
-fn look_over<P: Peer>(caller: &mut PeerCaller, peer: &mut P) -> Result<Option<ReadFault>, ReadFault>
-    ensures { IsLookedBy spec.next_over P.tells peer.old peer.new result }
-{
-    match caller.operate(peer, MTFSF, 1) {
-        Ok(None) => Ok(None),
-        Ok(Some(_)) => Ok(Some(ReadFault::Undetermined)),
-        Err(fault) => Err(fault),
-    }
-}
-
 /// Takes the reel offline if `goes` is `Offline`.
-#[tactic(auto, using(crate::proofs::Marks::reel_goes))]
 fn take_away<P: Peer>(
-    caller: &mut PeerCaller,
+    tape: &mut RemoteTape,
     peer: &mut P,
     goes: AfterVolume,
 ) -> Result<(), ReadFault>
@@ -382,62 +306,29 @@ fn take_away<P: Peer>(
 {
     match goes {
         AfterVolume::Stay | AfterVolume::Check => Ok(()),
-        AfterVolume::Offline => {
-            let offline = Request::Op {
-                op: MTOFFL,
-                count: 1,
-            };
-            ask(caller, peer, VolumeRequest::Offline, &offline)
-        }
-    }
-}
-
-/// Makes a request whose reply is a number. Fails if it is refused or gets no valid reply.
-fn ask<P: Peer>(
-    caller: &mut PeerCaller,
-    peer: &mut P,
-    asked: VolumeRequest,
-    request: &Request<'_>,
-) -> Result<(), ReadFault>
-    requires spelling { requests.HasSpelling (plain_request request.now) }
-    requires number { wanted_by (plain_request request.now) ≡ Number }
-    requires named { IsNamed asked (plain_request request.now) }
-    ensures { IsDoneNext P.tells (plain_request request.now) peer.old peer.new result }
-{
-    let answer = caller.call(peer, request)?;
-    done(&answer, asked)
-}
-
-/// Succeeds if this reply says that the request was done; else fails with the reason.
-fn done(answer: &KeptReply, asked: VolumeRequest) -> Result<(), ReadFault>
-    ensures { IsDoneBy answer.now asked result }
-{
-    match answer {
-        KeptReply::Done { .. } => Ok(()),
-        KeptReply::Error { number, .. } => Err(ReadFault::Refused {
-            asked,
-            number: *number,
-        }),
-        KeptReply::Data { .. } => Err(ReadFault::Botched),
+        AfterVolume::Offline => match tape.offline(peer) {
+            Ok(()) => Ok(()),
+            Err(fault) => Err(ReadFault::Tape(fault)),
+        },
     }
 }
 
 /// Gives the sink the label and the records after it, until a read returns nothing. Returns the
 /// number of records, the label included; 0 if there is no label.
 fn give_volume<P: Peer, S: VolumeSink>(
-    caller: &mut PeerCaller,
+    tape: &mut RemoteTape,
     peer: &mut P,
     sink: &mut S,
 ) -> Result<u64, ReadFault>
     ensures { IsGivenAtLabel (sink_kind P.tells S.takes)
         (sink_ends peer.old sink.old) (sink_ends peer.new sink.new) result }
 {
-    let label = caller.next_record(peer)?;
+    let label = tape.read(peer, RECORD_LIMIT as u32)?;
     if label.is_empty() {
         return Ok(0);
     }
-    match sink.label(&label) {
-        Verdict::GoOn => give_records(caller, peer, sink),
+    match sink.label(label) {
+        Verdict::GoOn => give_records(tape, peer, sink),
         Verdict::Stop => Err(ReadFault::Stopped),
     }
 }
@@ -445,7 +336,7 @@ fn give_volume<P: Peer, S: VolumeSink>(
 /// Gives the sink record after record until a read returns nothing. Returns the number of records
 /// that were read, the label included.
 fn give_records<P: Peer, S: VolumeSink>(
-    caller: &mut PeerCaller,
+    tape: &mut RemoteTape,
     peer: &mut P,
     sink: &mut S,
 ) -> Result<u64, ReadFault>
@@ -453,11 +344,14 @@ fn give_records<P: Peer, S: VolumeSink>(
         (sink_ends peer.old sink.old) (sink_ends peer.new sink.new) result }
 {
     for records in 1..u64::MAX {
-        let bytes = caller.next_record(peer)?;
+        let bytes = tape.read(peer, RECORD_LIMIT as u32)?;
         if bytes.is_empty() {
             return Ok(records);
         }
-        sink.block(records - 1, &bytes)?;
+        sink.block(records - 1, bytes)?;
     }
-    Err(ReadFault::Botched)
+    Err(ReadFault::Tape(TapeFault {
+        request: TapeRequest::Read,
+        cause: TapeCause::NoReply(CallFault::Botched),
+    }))
 }

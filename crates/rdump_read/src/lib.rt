@@ -1,17 +1,22 @@
-//! The command `rdump read` reads volumes back into a file.
+//! The commands that read reels: `rdump read` and `rdump fetch`.
 //!
-//! `run_read` is the whole command. It reads one volume, or each volume of a stack, over one
-//! connection a volume, and prints each label. The file keeps its contents until a label or a block
-//! was read. A reel moves to the bin only after its blocks are on disk.
+//! `run_read` reads the first volume of a drive back into a file. `run_fetch` copies the reels of a
+//! stack into record files of a folder, each by `rdump_fetch::fetch_reel`, and the server moves each
+//! reel to the bin once its copy is kept.
 #![tactic(auto)]
 
-mod blocks_read;
+mod cause;
+mod fetch_command;
+mod folder_copy;
+mod front;
+mod named;
 mod out_file;
+mod part;
 mod progress;
 mod read_command;
 mod read_sink;
-mod stack;
+mod report;
 mod sums;
-mod volume;
 
+pub use fetch_command::run_fetch;
 pub use read_command::run_read;

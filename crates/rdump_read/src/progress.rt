@@ -1,4 +1,4 @@
-//! Shows how far a volume is read.
+//! Shows how far a reel is read.
 use printable::{LiveLine, LiveText};
 use std::fmt::Write as _;
 use std::io::Write;
@@ -10,6 +10,7 @@ use std::time::Clock;
 pub(crate) struct VolumeProgress<'a, R: Clock, W: Write> {
     line: LiveLine<'a, R, W>,
     volume: Option<u32>,
+    records: u64,
 }
 
 impl<'a, R: Clock, W: Write> VolumeProgress<'a, R, W> {
@@ -18,19 +19,26 @@ impl<'a, R: Clock, W: Write> VolumeProgress<'a, R, W> {
         VolumeProgress {
             line: LiveLine::new(clock, terminal),
             volume: None,
+            records: 0,
         }
     }
 
     /// Begins a reel, with the number of its volume if it has a label.
     pub(crate) fn begin(&mut self, volume: Option<u32>) {
         self.volume = volume;
+        self.records = 0;
         self.line.begin();
     }
 
-    /// Shows a block of the reel, counted from 0, that is written next. It has `bytes` bytes.
-    pub(crate) fn show(&mut self, block: u64, bytes: usize) {
+    /// Shows a record that is written next. It has `bytes` bytes. The first record is not shown:
+    /// block 1 follows it.
+    pub(crate) fn show(&mut self, bytes: usize) {
+        let number = self.records;
+        self.records = number.saturating_add(1);
+        if number == 0 {
+            return;
+        }
         if let Some(rate) = self.line.due() {
-            let number = block.saturating_add(1);
             let mut text = LiveText::new();
             let _ = match self.volume {
                 Some(volume) => write!(text, "volume {volume}, block {number}, {rate}"),

@@ -4,58 +4,31 @@
 ghost use Rattle.rdump_read.specs.Status.{IsReadStatus};
 ghost use Rattle.rdump_args.specs.Rdump.{IsReadLine};
 
+use crate::cause::{Cause, report_fault};
+use crate::front::{NO_LABEL, front, report_foreign};
 use crate::out_file::OutFile;
-use crate::read_sink::ReadSink;
-use crate::stack::read_stack;
-use crate::sums::read_sums;
-use crate::volume::{ReadEnd, read_volume};
+use crate::read_sink::{BlockSizes, FirstRecord, ReadSink, ReadStop};
 use exit_status::ExitStatus;
-use printable::plain;
 use rdump_args::ReadLine;
-use rdump_system::{ClientSystem, report, report_failed};
+use rdump_net::{AfterVolume, ReadFault, SocketPeer, copy_volume};
+use rdump_system::{ClientSystem, report, report_failed, report_unwritten};
+use remote_tape::TapeRequest;
 use std::io::Write;
-use sum_lines::Sums;
 
-/// Reads a volume back into a file, as `rdump read` does, and prints the volume's label. `terminal`
-/// is standard error, if that is a terminal: it shows how far the read is.
+/// Reads the first volume of a drive back into a file, as `rdump read` does, and prints the volume's
+/// label. `terminal` is standard error, if that is a terminal: it shows how far the read is.
 ///
-/// The sums file is read first, if one is given. Then the file is opened, which must not be the
-/// sums file, and emptied once the label was read. A file that is created here and gets no label is
-/// removed. Standard error reports how many blocks were read, and whether the first record is not a
-/// label of `rdump`.
+/// The file is opened first. At the first reply to a read that is no refusal, a regular file is
+/// emptied, also if the reel gives no record. Before that it keeps its contents, and a file that is
+/// created here is removed if no such reply comes. The records after the first one are appended.
+/// Whether a mark ends the volume is not found out. The reel stays in the drive.
 ///
-/// With `place`:
+/// Standard error reports how many blocks were read, and whether the reel does not begin with a
+/// label of `rdump`. At the end, a regular file or a block device is synced, and so is the folder of
+/// a file that is created here.
 ///
-/// - Each block is written at the offset that it has in the dump, and the file is not emptied.
-/// - The first record must be a label, and all blocks must have the same length.
-/// - The volume must end with a mark.
-///
-/// With `all`, each volume of the stack is read in this way:
-///
-/// - A reel moves to the bin once its volume was read, a mark was found after its records, and
-///   everything written is on disk.
-/// - A volume of another dump than the first one stays in the drive, and so does a reel without a
-///   record.
-/// - The read succeeds if the stack has no more reels, and no block is missing between those that
-///   were read. With a length, it also succeeds at a reel that stays, if no block below the length
-///   is missing.
-/// - With a length and a file that was not empty, the blocks below the length that follow the last
-///   one that was read are missing: the file's length does not show whether another run read them.
-///
-/// With a sums file, the SHA-256 of each volume's record file is compared with the lines of its
-/// label, and the volume must end with a mark. If there are such lines and none has the sum, the
-/// volume is not read whole: with `all`, its reel stays in the drive. Standard error reports what
-/// was found.
-///
-/// With a length, the file is cut to it at the end, if it is longer. With `all`, a file that is
-/// shorter is reported. With `all` and no length, it is reported that the end of the dump is not
-/// known. At the end, a regular file or a block device is synced, and so is the folder of a file
-/// that is created here.
-///
-/// Returns the exit status: `Success` if everything was read and synced, and nothing is known to be
-/// missing. Returns `StartupError` if the sums file could not be read or is not valid, if the file
-/// could not be opened or is the sums file, or if `place` or a length requires a regular file and it
-/// is not one. Returns `Abnormal` otherwise.
+/// Returns the exit status: `Success` if everything was read and synced. Returns `StartupError` if
+/// the file could not be opened, and `Abnormal` otherwise.
 pub fn run_read<R: ClientSystem, T: Write + Drop>(
     rt: &R,
     line: ReadLine<'_>,
@@ -63,79 +36,94 @@ pub fn run_read<R: ClientSystem, T: Write + Drop>(
 ) -> ExitStatus
     requires { IsReadLine line }
 {
-    let sums = match read_sums(rt, line.sums) {
-        Ok(sums) => sums,
-        Err(status) => return status,
-    };
-    match OutFile::open(rt, rt.alloc(), &line) {
-        Ok(file) if is_sums(rt, &line, &file) => ExitStatus::StartupError,
-        Ok(file) => read_into(rt, &line, file, sums, terminal),
+    match OutFile::open(rt, rt.alloc(), line.out) {
+        Ok(file) => read_into(rt, &line, file, terminal),
         Err(error) => report(rt, line.out, error),
     }
 }
 
-/// Whether the file is also the sums file of `line`, which is printed.
-fn is_sums<R: ClientSystem>(rt: &R, line: &ReadLine<'_>, file: &OutFile<'_, R>) -> bool {
-    let Some(path) = line.sums else {
-        return false;
-    };
-    let is_one = file.is_named(path);
-    if is_one {
-        let (out, sums) = (plain(line.out), plain(path));
-        let _ = eprintln!(rt; "rdump: {out}: it is the sums file too: {sums}");
-    }
-    is_one
-}
-
-/// Reads what `line` asks for into this file, and returns the exit status.
+/// Reads the first volume of the drive into this file, and returns the exit status.
 fn read_into<'a, R: ClientSystem, T: Write + Drop>(
     rt: &'a R,
     line: &ReadLine<'_>,
     file: OutFile<'a, R>,
-    sums: Option<Sums>,
     terminal: Option<T>,
 ) -> ExitStatus
     requires { IsReadLine line.now }
+    // The status is `Success` or `Abnormal`.
     ensures { IsReadStatus result }
 {
-    let mut sink = ReadSink::new(rt, file, line.place, sums, terminal);
-    let status = if line.all {
-        read_stack(rt, line, &mut sink)
-    } else {
-        read_one(rt, line, &mut sink)
+    let mut peer = SocketPeer::new(rt, line.to, line.timeout);
+    let mut sink = ReadSink::new(rt, file, terminal);
+    let device = line.device.as_bytes();
+    let read = copy_volume(rt.alloc(), &mut peer, device, AfterVolume::Stay, &mut sink);
+    sink.clear();
+    if sink.first().is_none() && was_answered(read) {
+        sink.empty();
+    }
+    report_records(rt, line, read, &sink);
+    let status = match (read, sink.stop()) {
+        (_, Some(ReadStop::Unprinted)) => report_unwritten(rt, ExitStatus::Abnormal),
+        (_, Some(ReadStop::File(error))) => {
+            report_failed(rt, line.out, &error, ExitStatus::Abnormal)
+        }
+        (Err(fault), None) => {
+            let cause = Cause::of_read(fault, peer.failure(), line.device);
+            report_fault(rt, line.to, &cause)
+        }
+        (Ok(()), None) => match sink.sync() {
+            Ok(()) => ExitStatus::Success,
+            Err(error) => report_failed(rt, line.out, &error, ExitStatus::Abnormal),
+        },
     };
     sink.end();
     status
 }
 
-/// Reads one volume into a file, and returns the exit status.
-fn read_one<R: ClientSystem, T: Write + Drop>(
-    rt: &R,
-    line: &ReadLine<'_>,
-    sink: &mut ReadSink<'_, R, T>,
-) -> ExitStatus
-    requires { IsReadLine line.now }
-    ensures { IsReadStatus result }
-{
-    match read_volume(rt, line, true, sink).end {
-        ReadEnd::Whole if sink.has_begun() => finish_file(rt, line, sink),
-        ReadEnd::Whole => ExitStatus::Success,
-        _ => ExitStatus::Abnormal,
+/// Whether a read was answered, if no record came of it. `read` is how reading the volume ended.
+fn was_answered(read: Result<(), ReadFault>) -> bool {
+    match read {
+        Ok(()) => true,
+        Err(ReadFault::Tape(fault)) => fault.request == TapeRequest::Close,
+        Err(_) => false,
     }
 }
 
-/// Cuts the file to the length in the arguments `line`, if they contain a length, and then syncs
-/// the file. Returns the exit status.
-pub(crate) fn finish_file<R: ClientSystem, T: Write + Drop>(
+/// Prints how many blocks were read, and whether the reel does not begin with a label.
+fn report_records<R: ClientSystem, T: Write + Drop>(
     rt: &R,
     line: &ReadLine<'_>,
-    sink: &mut ReadSink<'_, R, T>,
-) -> ExitStatus
-    // The status is `Success` or `Abnormal`.
-    ensures { IsReadStatus result }
+    read: Result<(), ReadFault>,
+    sink: &ReadSink<'_, R, T>,
+)
+    requires { IsReadLine line.now }
 {
-    match sink.finish(line.length) {
-        Ok(()) => ExitStatus::Success,
-        Err(error) => report_failed(rt, line.out, &error, ExitStatus::Abnormal),
+    match sink.first() {
+        Some(FirstRecord::Label) => report_sizes(rt, sink.sizes()),
+        Some(FirstRecord::Other) => {
+            report_sizes(rt, sink.sizes());
+            report_foreign(rt, line.to, line.device, NO_LABEL);
+        }
+        None if read.is_ok() => {
+            let what = front(rt, line.to, line.device, line.timeout);
+            report_foreign(rt, line.to, line.device, what);
+        }
+        None => {}
     }
+}
+
+/// Prints how many blocks were read, and of how many bytes.
+fn report_sizes<R: ClientSystem>(rt: &R, sizes: BlockSizes) {
+    let BlockSizes {
+        count,
+        shortest,
+        longest,
+        total,
+    } = sizes;
+    let _ = match count {
+        0 => eprintln!(rt; "0 blocks"),
+        1 => eprintln!(rt; "1 block of {total} bytes"),
+        _ if shortest == longest => eprintln!(rt; "{count} blocks of {longest} bytes"),
+        _ => eprintln!(rt; "{count} blocks of {shortest} to {longest} bytes, {total} bytes in all"),
+    };
 }

@@ -1,62 +1,88 @@
 //! What `rdump read` does with a volume that is read.
 use crate::out_file::OutFile;
 use crate::progress::VolumeProgress;
+use dump_run::VolumeLabel;
 use printable::PlainBytes;
-use rdump_files::{BlockSizes, FileSink, Found, SinkFault};
 use rdump_net::{SinkStopped, Verdict, VolumeSink};
-use rdump_sums::ComparedSink;
 use rdump_system::{ClientSystem, may_be_terminal};
 use rmt_wire::find_byte;
 use std::io::{self, Write};
-use sum_lines::{SumVerdict, Sums};
 
-/// What a volume is read into. Standard output gets the text of each label that is wanted, and the
-/// file gets the blocks. `T` is the terminal that shows the progress.
+/// The first record of a reel.
+#[derive(Clone, Copy, PartialEq, Eq)]
+pub(crate) enum FirstRecord {
+    /// A label of a volume.
+    Label,
+    /// Any other record.
+    Other,
+}
+
+/// Why a sink stopped the read.
+#[derive(Clone, Copy)]
+pub(crate) enum ReadStop {
+    /// The text of the first record could not be printed.
+    Unprinted,
+    /// The file could not be emptied or written.
+    File(io::Error),
+}
+
+/// How many blocks were written, and of how many bytes.
+#[derive(Clone, Copy)]
+pub(crate) struct BlockSizes {
+    /// How many blocks there are.
+    pub count: u64,
+    /// The bytes of the shortest block.
+    pub shortest: usize,
+    /// The bytes of the longest block, or 0 if there is none.
+    pub longest: usize,
+    /// The bytes of all blocks.
+    pub total: u64,
+}
+
+impl BlockSizes {
+    /// The sizes of no blocks.
+    const NONE: BlockSizes = BlockSizes {
+        count: 0,
+        shortest: usize::MAX,
+        longest: 0,
+        total: 0,
+    };
+
+    /// Counts a block of `bytes` bytes.
+    fn add(&mut self, bytes: usize) {
+        self.count = self.count.saturating_add(1);
+        self.shortest = self.shortest.min(bytes);
+        self.longest = self.longest.max(bytes);
+        self.total = self.total.saturating_add(bytes as u64);
+    }
+}
+
+/// What a volume is read into. Standard output gets the text of the first record, and the file gets
+/// the blocks. `T` is the terminal that shows the progress.
 ///
 /// If standard output may be a terminal, control characters in a text that is not a label are
 /// printed as `?`. If the text cannot be printed, the file keeps its contents.
 #[derive(Drop)]
 pub(crate) struct ReadSink<'a, R: ClientSystem, T: Write + Drop> {
     rt: &'a R,
-    is_shown: bool,
-    places: bool,
-    file: ComparedSink<FileSink<OutFile<'a, R>>>,
+    file: OutFile<'a, R>,
     progress: Option<VolumeProgress<'a, R, T>>,
-    found: Option<Found>,
-    is_unprinted: bool,
-    is_complete: bool,
-    verdict: Option<SumVerdict>,
+    first: Option<FirstRecord>,
+    sizes: BlockSizes,
+    stop: Option<ReadStop>,
 }
 
 impl<'a, R: ClientSystem, T: Write + Drop> ReadSink<'a, R, T> {
-    /// Makes a sink for this file, whose blocks have places if `places`. Each volume is compared
-    /// with `sums`, if given.
-    pub(crate) fn new(
-        rt: &'a R,
-        file: OutFile<'a, R>,
-        places: bool,
-        sums: Option<Sums>,
-        terminal: Option<T>,
-    ) -> Self {
+    /// Makes a sink for this file.
+    pub(crate) fn new(rt: &'a R, file: OutFile<'a, R>, terminal: Option<T>) -> Self {
         ReadSink {
             rt,
-            is_shown: may_be_terminal(rt),
-            places,
-            file: ComparedSink::new(FileSink::new(file, places), sums),
+            file,
             progress: terminal.map(|it| VolumeProgress::new(rt, it)),
-            found: None,
-            is_unprinted: false,
-            is_complete: false,
-            verdict: None,
+            first: None,
+            sizes: BlockSizes::NONE,
+            stop: None,
         }
-    }
-
-    /// Forgets the volume before.
-    pub(crate) fn begin(&mut self) {
-        self.found = None;
-        self.is_unprinted = false;
-        self.is_complete = false;
-        self.verdict = None;
     }
 
     /// Clears the line of progress.
@@ -66,128 +92,93 @@ impl<'a, R: ClientSystem, T: Write + Drop> ReadSink<'a, R, T> {
         }
     }
 
-    /// Returns what the first record of the volume is. None if there was no record.
-    pub(crate) fn found(&self) -> Option<&Found> {
-        self.found.as_ref()
+    /// Returns what the first record is. None if there was no record.
+    pub(crate) fn first(&self) -> Option<FirstRecord> {
+        self.first
     }
 
-    /// Whether the text of the label could not be printed.
-    pub(crate) fn is_unprinted(&self) -> bool {
-        self.is_unprinted
-    }
-
-    /// Whether the volume is kept, so that its reel may go.
-    pub(crate) fn is_complete(&self) -> bool {
-        self.is_complete
-    }
-
-    /// Returns how many blocks of the volume were written, and of how many bytes.
+    /// Returns how many blocks were written, and of how many bytes.
     pub(crate) fn sizes(&self) -> BlockSizes {
-        self.file.sink().sizes()
+        self.sizes
     }
 
-    /// Takes why the file stopped the read, if it did.
-    pub(crate) fn take_fault(&mut self) -> Option<SinkFault> {
-        self.file.sink_mut().take_fault()
+    /// Returns why the sink stopped the read, if it did.
+    pub(crate) fn stop(&self) -> Option<ReadStop> {
+        self.stop
     }
 
-    /// Returns what the comparison of the volume's sum found, if it was compared.
-    pub(crate) fn verdict(&self) -> Option<SumVerdict> {
-        self.verdict
-    }
-
-    /// Returns the file.
-    pub(crate) fn file(&self) -> &OutFile<'a, R> {
-        self.file.sink().file()
-    }
-
-    /// Returns how many bytes each block has, if one was written at its place.
-    pub(crate) fn block_bytes(&self) -> Option<usize> {
-        self.file.sink().block_bytes()
-    }
-
-    /// Whether a volume has begun: a label or a block went on.
-    pub(crate) fn has_begun(&self) -> bool {
-        self.file.sink().has_begun()
-    }
-
-    /// Cuts the file to this length, if one is given, and syncs it.
-    pub(crate) fn finish(&mut self, length: Option<u64>) -> io::Result<()> {
-        self.file.sink_mut().finish(length)
-    }
-
-    /// Removes the file if this run created it and no volume has begun.
-    pub(crate) fn end(self) {
-        if !self.file.sink().has_begun() {
-            self.file.into_sink().into_file().remove_made();
+    /// Empties the file.
+    pub(crate) fn empty(&mut self) {
+        if let Err(error) = self.file.begin() {
+            self.stop = Some(ReadStop::File(error));
         }
     }
 
-    /// Prints the text of a first record that is wanted. Returns false if it cannot be printed.
-    fn print(&self, found: &Found, record: &[u8]) -> bool {
-        let text = text_of(record);
-        let mut out = io::writer(self.rt);
-        let printed = match found {
-            Found::Volume(_) => out.write_all(text),
-            Found::Foreign if !self.places => self.print_foreign(text),
-            _ => Ok(()),
-        };
-        printed.is_ok()
+    /// Syncs the file.
+    pub(crate) fn sync(&self) -> io::Result<()> {
+        self.file.sync()
     }
 
-    /// Prints a text that is not a label.
-    fn print_foreign(&self, text: &[u8]) -> io::Result<()> {
+    /// Ends the read. Removes the file if this run created it and no read was answered.
+    pub(crate) fn end(self) {
+        self.file.end();
+    }
+
+    /// Prints the text of a first record, and empties the file.
+    fn begin(&mut self, record: &[u8], label: Option<&VolumeLabel>) -> Result<(), ReadStop> {
+        let text = text_of(record);
         let mut out = io::writer(self.rt);
-        if self.is_shown {
+        let printed = if label.is_none() && may_be_terminal(self.rt) {
             write!(out, "{}", PlainBytes(text))
         } else {
             out.write_all(text)
+        };
+        if printed.is_err() {
+            return Err(ReadStop::Unprinted);
         }
+        self.file.begin().map_err(ReadStop::File)
     }
 }
 
 impl<'a, R: ClientSystem, T: Write + Drop> VolumeSink for ReadSink<'a, R, T> {
     ghost takes = { λ _ _ _ _. Unit };
 
-    /// Prints the text of a record that is wanted, and then gives the record to the file.
+    /// Prints the text of the record, and then empties the file.
     fn label(&mut self, record: &[u8]) -> Verdict {
-        let found = self.file.sink().look(record);
-        self.is_unprinted = !self.print(&found, record);
+        let label = VolumeLabel::read(record);
+        self.first = match label {
+            Some(_) => Some(FirstRecord::Label),
+            None => Some(FirstRecord::Other),
+        };
         if let Some(progress) = &mut self.progress {
-            progress.begin(volume_of(&found));
+            progress.begin(label.as_ref().map(|it| it.volume()));
+            progress.show(record.len());
         }
-        self.found = Some(found);
-        if self.is_unprinted {
-            Verdict::Stop
-        } else {
-            self.file.label(record)
+        match self.begin(record, label.as_ref()) {
+            Ok(()) => Verdict::GoOn,
+            Err(stop) => {
+                self.stop = Some(stop);
+                Verdict::Stop
+            }
         }
     }
 
-    fn block(&mut self, number: u64, bytes: &[u8]) -> Result<(), SinkStopped> {
+    fn block(&mut self, _number: u64, bytes: &[u8]) -> Result<(), SinkStopped> {
         if let Some(progress) = &mut self.progress {
-            progress.show(number, bytes.len());
+            progress.show(bytes.len());
         }
-        self.file.block(number, bytes)
+        if let Err(error) = self.file.append(bytes) {
+            self.stop = Some(ReadStop::File(error));
+            return Err(SinkStopped);
+        }
+        self.sizes.add(bytes.len());
+        Ok(())
     }
 
-    fn mark(&mut self) {
-        self.file.mark();
-    }
+    fn mark(&mut self) {}
 
     fn complete(&mut self) -> Result<(), SinkStopped> {
-        let completed = self.file.complete();
-        self.verdict = self.file.verdict();
-        self.is_complete = completed.is_ok();
-        completed
-    }
-}
-
-/// Returns the number of the volume, if the record is a label that is wanted.
-fn volume_of(found: &Found) -> Option<u32> {
-    match found {
-        Found::Volume(label) => Some(label.volume()),
-        _ => None,
+        Ok(())
     }
 }
 

@@ -1,4 +1,4 @@
-//! The sums file of a restore.
+//! The sums file that reels are compared with.
 ghost use Rattle.std.specs.Prelude.{◌≡◌, IfErr};
 ghost use Rattle.exit_status.specs.declared.status.ExitStatus.TheVariants.{StartupError};
 

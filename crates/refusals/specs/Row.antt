@@ -1,16 +1,16 @@
 -- A row of the table. Public contracts cite it.
 use Rattle.std.specs.Prelude.{◌≡◌, ◌⊎◌, ℕ, Bool, true, false, List, [], ◌++◌, Option, Some, None}
 use Rattle.printable.specs.Printing.{printable}
-use Rattle.refusals.specs.declared.request.RefusedRequest.{RefusedRequest}
+use Rattle.refusals.specs.declared.request.TapeRequest.{TapeRequest}
 use Rattle.refusals.specs.declared.row.Row.{Row}
 
 -- A row with this request is for the request `asked`: it is the same one, or the row is for each
 -- request.
-abbrev pub IsAskedFor : Option RefusedRequest → RefusedRequest → Type 0
+abbrev pub IsAskedFor : Option TapeRequest → TapeRequest → Type 0
 IsAskedFor request asked = (request ≡ Some asked) ⊎ (request ≡ None)
 
 -- The row is for this request, and for this error number.
-pub record IsRowOf (request : RefusedRequest) (errno : ℕ) (row : Row) : Type 0 where
+pub record IsRowOf (request : TapeRequest) (errno : ℕ) (row : Row) : Type 0 where
   pub number : row.number ≡ errno
   pub asked : IsAskedFor row.asked request
 

@@ -1,6 +1,6 @@
 //! What it means that a server refuses a request with an error, and what to do then.
 //!
-//! `RefusedRequest` is the request, and `request_of` returns which request some bytes are.
+//! `TapeRequest` is the request, and `request_of` returns which request some bytes are.
 //! `Refusal` prints what the error means, in the words of one table. The table has a row for each
 //! error number that a server of this protocol answers, and further rows for single requests.
 //!
@@ -16,5 +16,5 @@ mod row;
 mod table;
 
 pub use refusal::Refusal;
-pub use request::{RefusedRequest, request_of};
+pub use request::{TapeRequest, request_of};
 pub use row::Row;

@@ -4,7 +4,7 @@ ghost use Rattle.std.specs.Fmt.{WritesOnOk};
 ghost use Rattle.refusals.specs.Row.{IsRowOf, drive_text, row_text};
 ghost use Rattle.refusals.specs.Refusal.{refusal_text};
 
-use crate::request::RefusedRequest;
+use crate::request::TapeRequest;
 use crate::row::Row;
 use crate::table::find_row;
 use printable::plain;
@@ -27,7 +27,7 @@ pub struct Refusal<'a> {
 impl<'a> Refusal<'a> {
     /// Makes the refusal of the request `asked` with this number. If it is not known which request
     /// was refused, it has no row.
-    pub fn new(asked: RefusedRequest, number: u32, device: &'a str) -> Refusal<'a>
+    pub fn new(asked: TapeRequest, number: u32, device: &'a str) -> Refusal<'a>
         // The refusal has the given number and the given name of the drive. If the refusal has a
         // row, this row is for the given number, and for the given request or for each request.
         ensures fits { IfSome result.row (IsRowOf asked number) }

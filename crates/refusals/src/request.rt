@@ -11,7 +11,7 @@ const OLDER_LIMIT: usize = 65536;
 
 /// A request that a server may refuse.
 #[derive(Clone, Copy, Debug, PartialEq, Eq, Error)]
-pub enum RefusedRequest {
+pub enum TapeRequest {
     /// The open of the device.
     #[error("open")]
     Open,
@@ -46,16 +46,16 @@ pub enum RefusedRequest {
 
 /// Returns which request these bytes are, if they are one whole request.
 #[tactic(auto, unfolding(crate::specs::Request::request_in, crate::specs::Request::letter_in))]
-pub fn request_of(bytes: &[u8]) -> Option<RefusedRequest>
+pub fn request_of(bytes: &[u8]) -> Option<TapeRequest>
     // The first byte decides which request the bytes are. If they are an operation, the second byte
     // decides which one. A write is a `LongWrite` if more than 65,536 bytes follow its first line
     // feed.
     ensures { result ≡ request_in bytes.now }
 {
     match bytes {
-        [b'O', ..] => Some(RefusedRequest::Open),
-        [b'C', ..] => Some(RefusedRequest::Close),
-        [b'R', ..] => Some(RefusedRequest::Read),
+        [b'O', ..] => Some(TapeRequest::Open),
+        [b'C', ..] => Some(TapeRequest::Close),
+        [b'R', ..] => Some(TapeRequest::Read),
         [b'W', rest @ ..] => Some(write_of(rest)),
         [b'I', digit, ..] => Some(operation_of(*digit)),
         _ => None,
@@ -63,27 +63,27 @@ pub fn request_of(bytes: &[u8]) -> Option<RefusedRequest>
 }
 
 /// Returns which write a request is. `rest` is its bytes after the `W`.
-fn write_of(rest: &[u8]) -> RefusedRequest
+fn write_of(rest: &[u8]) -> TapeRequest
     ensures { result ≡ write_in rest.now }
 {
     match find_byte(rest, b'\n') {
-        Some(at) if rest.len() - at > OLDER_LIMIT + 1 => RefusedRequest::LongWrite,
-        _ => RefusedRequest::Write,
+        Some(at) if rest.len() - at > OLDER_LIMIT + 1 => TapeRequest::LongWrite,
+        _ => TapeRequest::Write,
     }
 }
 
 /// Returns which operation begins with this digit.
-fn operation_of(digit: u8) -> RefusedRequest
+fn operation_of(digit: u8) -> TapeRequest
     ensures { result ≡ operation_in digit }
 {
     if digit < b'0' {
-        return RefusedRequest::Nop;
+        return TapeRequest::Nop;
     }
     match u32::from(digit - b'0') {
-        MTWEOF => RefusedRequest::WriteMark,
-        MTFSF | MTBSF | MTFSR | MTBSR => RefusedRequest::Space,
-        MTREW => RefusedRequest::Rewind,
-        MTOFFL => RefusedRequest::Offline,
-        _ => RefusedRequest::Nop,
+        MTWEOF => TapeRequest::WriteMark,
+        MTFSF | MTBSF | MTFSR | MTBSR => TapeRequest::Space,
+        MTREW => TapeRequest::Rewind,
+        MTOFFL => TapeRequest::Offline,
+        _ => TapeRequest::Nop,
     }
 }

@@ -1,5 +1,5 @@
 //! A row of the table.
-use crate::request::RefusedRequest;
+use crate::request::TapeRequest;
 
 /// A row of the table: what an error number means as the answer to a request, and what to do.
 #[derive(Clone, Copy)]
@@ -7,7 +7,7 @@ pub struct Row {
     /// The error number.
     pub number: u32,
     /// The request. None means each request that has no row of its own with this number.
-    pub asked: Option<RefusedRequest>,
+    pub asked: Option<TapeRequest>,
     /// The text. If it names the drive, this is the part before the name.
     pub before: &'static str,
     /// Whether the text names the drive.

@@ -2,7 +2,7 @@
 ghost use Rattle.std.specs.Prelude.{IfSome, IsTrue};
 ghost use Rattle.refusals.specs.Row.{IsAskedFor, IsRowOf};
 
-use crate::request::RefusedRequest;
+use crate::request::TapeRequest;
 use crate::row::Row;
 use rmt_wire::errno::{EACCES, EBADF, EBUSY, EINVAL, EIO, ENOENT, ENOMEM, ENOSPC, ENXIO};
 
@@ -18,7 +18,7 @@ const NOT_WRITTEN: &str =
 static ROWS: [Row; 22] = [
     Row {
         number: ENOENT,
-        asked: Some(RefusedRequest::Open),
+        asked: Some(TapeRequest::Open),
         before: "the server has no drive ",
         names_drive: true,
         after: ": correct --device, or the arguments of the server",
@@ -32,49 +32,49 @@ static ROWS: [Row; 22] = [
     },
     Row {
         number: EIO,
-        asked: Some(RefusedRequest::Open),
+        asked: Some(TapeRequest::Open),
         before: "the server could not open the first reel of ",
         names_drive: true,
         after: ": its log has the reason, such as a lock that another program holds",
     },
     Row {
         number: EIO,
-        asked: Some(RefusedRequest::Space),
+        asked: Some(TapeRequest::Space),
         before: "there are too few marks or records, or the drive failed: then the server's log has the reason",
         names_drive: false,
         after: "",
     },
     Row {
         number: EIO,
-        asked: Some(RefusedRequest::Read),
+        asked: Some(TapeRequest::Read),
         before: "the server could not read the reel of ",
         names_drive: true,
         after: ": its log has the reason",
     },
     Row {
         number: EIO,
-        asked: Some(RefusedRequest::Write),
+        asked: Some(TapeRequest::Write),
         before: NOT_WRITTEN,
         names_drive: false,
         after: "",
     },
     Row {
         number: EIO,
-        asked: Some(RefusedRequest::LongWrite),
+        asked: Some(TapeRequest::LongWrite),
         before: NOT_WRITTEN,
         names_drive: false,
         after: "",
     },
     Row {
         number: EIO,
-        asked: Some(RefusedRequest::WriteMark),
+        asked: Some(TapeRequest::WriteMark),
         before: NOT_WRITTEN,
         names_drive: false,
         after: "",
     },
     Row {
         number: EIO,
-        asked: Some(RefusedRequest::Offline),
+        asked: Some(TapeRequest::Offline),
         before: NOT_WRITTEN,
         names_drive: false,
         after: "",
@@ -88,7 +88,7 @@ static ROWS: [Row; 22] = [
     },
     Row {
         number: ENXIO,
-        asked: Some(RefusedRequest::Open),
+        asked: Some(TapeRequest::Open),
         before: "no reel is on the stack of ",
         names_drive: true,
         after: ": put one into its folder",
@@ -109,7 +109,7 @@ static ROWS: [Row; 22] = [
     },
     Row {
         number: ENOMEM,
-        asked: Some(RefusedRequest::Read),
+        asked: Some(TapeRequest::Read),
         before: "the server is out of memory, or the tape of ",
         names_drive: true,
         after: " begins with a longer record than rdump reads",
@@ -123,7 +123,7 @@ static ROWS: [Row; 22] = [
     },
     Row {
         number: EACCES,
-        asked: Some(RefusedRequest::Open),
+        asked: Some(TapeRequest::Open),
         before: "the server has no permission to open ",
         names_drive: true,
         after: ": check as which user it runs",
@@ -137,7 +137,7 @@ static ROWS: [Row; 22] = [
     },
     Row {
         number: EBUSY,
-        asked: Some(RefusedRequest::Open),
+        asked: Some(TapeRequest::Open),
         before: "another session holds ",
         names_drive: true,
         after: ": the server's log says which; wait until the drive is free, or use another one",
@@ -151,7 +151,7 @@ static ROWS: [Row; 22] = [
     },
     Row {
         number: EINVAL,
-        asked: Some(RefusedRequest::LongWrite),
+        asked: Some(TapeRequest::LongWrite),
         before: "an older server takes blocks of at most 65,536 bytes: use a smaller --block",
         names_drive: false,
         after: "",
@@ -173,14 +173,14 @@ static ROWS: [Row; 22] = [
 ];
 
 /// Returns the row for the refusal of a request with this number, if the table has one.
-pub(crate) fn find_row(asked: RefusedRequest, number: u32) -> Option<Row>
+pub(crate) fn find_row(asked: TapeRequest, number: u32) -> Option<Row>
     ensures { IfSome result (IsRowOf asked number) }
 {
     first_of(&ROWS, asked, number)
 }
 
 /// Returns the first of these rows that is for this request and number.
-fn first_of(rows: &[Row], asked: RefusedRequest, number: u32) -> Option<Row>
+fn first_of(rows: &[Row], asked: TapeRequest, number: u32) -> Option<Row>
     ensures { IfSome result (IsRowOf asked number) }
 {
     for row in rows {
@@ -192,7 +192,7 @@ fn first_of(rows: &[Row], asked: RefusedRequest, number: u32) -> Option<Row>
 }
 
 /// Whether a row with this request is for the request `asked`.
-fn is_for(row: Option<RefusedRequest>, asked: RefusedRequest) -> bool
+fn is_for(row: Option<TapeRequest>, asked: TapeRequest) -> bool
     ensures { IsTrue result → IsAskedFor row asked }
 {
     match row {

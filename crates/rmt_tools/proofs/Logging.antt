@@ -1,9 +1,9 @@
 -- The log that a peer in memory keeps.
 use Rattle.std.proofs.Common.{◌≡◌, ℕ, ◌+◌, ◌-◌, ◌^◌, ◌<◌, ◌≤◌, min, Bool, true, false, List, [], ◌∷◌, ◌++◌, replicate, map, take, length, length-take, refl, sym, ap, subst, ◌∙◌, append-nil, append_assoc, arith}
 use Rattle.std.proofs.lemmas.List.{replicate_more}
-use Rattle.rdump_net.specs.Peer.{Logs, given}
-use Rattle.rdump_net.specs.declared.peer.Passed.{Passed}
-use Rattle.rdump_net.specs.declared.peer.Passed.TheVariants.{Given, Ended}
+use Rattle.remote_tape.specs.Peer.{Logs, given}
+use Rattle.remote_tape.specs.declared.peer.Passed.{Passed}
+use Rattle.remote_tape.specs.declared.peer.Passed.TheVariants.{Given, Ended}
 use Rattle.rmt_tools.specs.Telling.{KeptLog, kept_log, IsLogOf, events_if}
 
 -- one end more

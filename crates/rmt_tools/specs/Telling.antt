@@ -9,8 +9,8 @@ use Rattle.rmt_server.specs.declared.session.session_state.SessionState.{Session
 use Rattle.rmt_server.specs.Memory.{MemoryState, in_memory}
 use Rattle.rmt_server.specs.Opening.{IsClosed}
 use Rattle.rmt_server.specs.State.{state}
-use Rattle.rdump_net.specs.declared.peer.Passed.{Passed}
-use Rattle.rdump_net.specs.declared.peer.Passed.TheVariants.{Ended}
+use Rattle.remote_tape.specs.declared.peer.Passed.{Passed}
+use Rattle.remote_tape.specs.declared.peer.Passed.TheVariants.{Ended}
 
 -- the log of a peer: what passed, and after it so many `Ended` events
 pub record KeptLog : Type 0 where

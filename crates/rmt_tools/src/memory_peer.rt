@@ -3,8 +3,8 @@ ghost use Rattle.std.specs.Prelude.{◌≡◌, ◌≤◌, ◌∷◌, [], None, I
 ghost use Rattle.rmt_server.specs.Memory.{in_memory};
 ghost use Rattle.rmt_server.specs.Opening.{IsClosed};
 ghost use Rattle.rmt_server.specs.State.{state};
-ghost use Rattle.rdump_net.specs.Peer.{Logs, connected};
-ghost use Rattle.rdump_net.specs.declared.peer.Passed.TheVariants.{Connected, Ended};
+ghost use Rattle.remote_tape.specs.Peer.{Logs, connected};
+ghost use Rattle.remote_tape.specs.declared.peer.Passed.TheVariants.{Connected, Ended};
 ghost use Rattle.rmt_tools.specs.Telling.{IsCleared, IsLogOf, IsMadeOf, IsTakenApart, events_if};
 
 mod far_end;

@@ -7,7 +7,8 @@ use super::check_row;
 use super::store::{Held, Kept};
 use dump_client::{Client, ListBlocks, Run};
 use dump_run::LABEL_BYTES;
-use rdump_files::{FileFailed, FileSink, MemoryFile, RestoredFile};
+use rdump_fetch::{FetchSink, MemoryCopy};
+use rdump_files::FileFailed;
 use rdump_list::compare_reel;
 use rdump_net::{Verdict, VolumeSink};
 use rdump_sums::{ComparedSink, EnterFault, enter_sum, sum_line_of};
@@ -18,7 +19,7 @@ use tape::MemoryMedium;
 use volume_sum::Summed;
 
 /// The lines of the label.
-const LABEL: &[u8] = b"name /usr\nlevel 0\ndate 951782400\nsince 0\nvolume 1\nfirst 0\n";
+pub(super) const LABEL: &[u8] = b"name /usr\nlevel 0\ndate 951782400\nsince 0\nvolume 1\nfirst 0\n";
 
 /// The record file after the 58 bytes of `LABEL` and its 966 zero bytes.
 const BLOCKS: &[u8] = b"\0\x04\0\0\x02\0\0\0ab\x02\0\0\0\x02\0\0\0cd\x02\0\0\0\0\0\0\0";
@@ -28,15 +29,17 @@ const BLOCKS: &[u8] = b"\0\x04\0\0\x02\0\0\0ab\x02\0\0\0\x02\0\0\0cd\x02\0\0\0\0
 /// `(printf '\0\4\0\0name /usr\nlevel 0\ndate 951782400\nsince 0\nvolume 1\nfirst 0\n';`
 /// `head -c 966 /dev/zero; printf '\0\4\0\0\2\0\0\0ab\2\0\0\0\2\0\0\0cd\2\0\0\0\0\0\0\0') |`
 /// `sha256sum`
-const LINE: &[u8] = b"5c3bcbe871a8f199adcd679cbcf5ab22c312f376e4ac8d763beb9ef0dddb7343\
+pub(super) const LINE: &[u8] = b"5c3bcbe871a8f199adcd679cbcf5ab22c312f376e4ac8d763beb9ef0dddb7343\
 \x20\x20/usr level 0 date 951782400 since 0 volume 1 first 0, 2 blocks of 2 bytes, 1056 bytes\n";
 
 /// A line of the same volume with another sum.
-const OTHER_SUM: &[u8] = b"0c3bcbe871a8f199adcd679cbcf5ab22c312f376e4ac8d763beb9ef0dddb7343\
+pub(super) const OTHER_SUM: &[u8] =
+    b"0c3bcbe871a8f199adcd679cbcf5ab22c312f376e4ac8d763beb9ef0dddb7343\
 \x20\x20/usr level 0 date 951782400 since 0 volume 1 first 0, 2 blocks of 2 bytes, 1056 bytes\n";
 
 /// A line of another volume with the sum of the volume.
-const OTHER_VOLUME: &[u8] = b"5c3bcbe871a8f199adcd679cbcf5ab22c312f376e4ac8d763beb9ef0dddb7343\
+pub(super) const OTHER_VOLUME: &[u8] =
+    b"5c3bcbe871a8f199adcd679cbcf5ab22c312f376e4ac8d763beb9ef0dddb7343\
 \x20\x20/usr level 0 date 951782400 since 0 volume 2 first 0, 2 blocks of 2 bytes, 1056 bytes\n";
 
 /// The lines `OTHER_SUM` and `LINE`.
@@ -57,13 +60,12 @@ static ROWS: [Row; 5] = [
     (b"", SumVerdict::Unknown),
 ];
 
-/// A sink of a file in memory that compares volumes.
-type Sink = ComparedSink<FileSink<MemoryFile>>;
+/// A sink of copies in memory that compares volumes.
+type Sink = ComparedSink<FetchSink<MemoryCopy>>;
 
 /// Makes a sink that compares volumes with the lines of `sums`, if given.
-fn sink(alloc: Global, sums: Option<Sums>) -> Result<Sink, AllocError> {
-    let file = MemoryFile::from_bytes(Vec::from_slice(alloc, b"")?);
-    Ok(ComparedSink::new(FileSink::new(file, true), sums))
+fn sink(alloc: Global, sums: Option<Sums>) -> Sink {
+    ComparedSink::new(FetchSink::new(MemoryCopy::new(alloc)), sums)
 }
 
 /// Gives a sink the volume. Returns whether the sink completed, or None if it stopped before.
@@ -85,12 +87,12 @@ fn is_compared(alloc: Global, row: &Row) -> Result<bool, Fail> {
     let Ok(sums) = Sums::read(alloc, text) else {
         return Ok(false);
     };
-    let mut sink = sink(alloc, Some(sums))?;
+    let mut sink = sink(alloc, Some(sums));
     let completes = wanted != SumVerdict::Differs;
     Ok(
         give(&mut sink) == Some(completes)
             && sink.verdict() == Some(wanted)
-            && sink.sink().file().bytes() == b"abcd".as_slice(),
+            && sink.sink().is_complete() == completes,
     )
 }
 
@@ -104,15 +106,16 @@ fn volumes_that_are_compared(rt: HostRuntime) -> Result<(), Fail> {
 
 #[test]
 fn a_volume_without_a_sums_file(rt: HostRuntime) -> Result<(), Fail> {
-    let mut sink = sink(rt.alloc(), None)?;
+    let mut sink = sink(rt.alloc(), None);
     assert!(rt; give(&mut sink) == Some(true) && sink.verdict().is_none());
-    assert!(rt; sink.sink_mut().file_mut().cut(3).is_ok());
-    assert!(rt; sink.into_sink().into_file().bytes() == b"abc".as_slice());
+    sink.sink_mut().leave();
+    let copy = reel(rt.alloc(), b"")?;
+    assert!(rt; sink.into_sink().file().bytes() == Some(copy.as_slice()));
     Ok(())
 }
 
 /// Returns a record file of the volume, and then the bytes `more`.
-fn reel(alloc: Global, more: &[u8]) -> Result<Vec<u8>, AllocError> {
+pub(super) fn reel(alloc: Global, more: &[u8]) -> Result<Vec<u8>, AllocError> {
     let mut bytes = Vec::from_slice(alloc, b"\0\x04\0\0")?;
     bytes.extend_from_slice(LABEL)?;
     bytes.resize(LABEL_BYTES + 4, 0)?;

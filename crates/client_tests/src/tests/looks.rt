@@ -3,13 +3,12 @@
 use super::check_row;
 use super::fake::{FakePeer, Replies};
 use super::fixture::DEVICE;
-use rdump_net::{
-    CallFault, LookFault, LookRequest, Protection, ReelFront, find_protection, look_at_reel,
-};
+use rdump_net::{Protection, ReelFront, find_protection, look_at_reel};
+use remote_tape::{CallFault, TapeCause, TapeFault, TapeRequest};
 use std::alloc::Global;
 
 /// The result of a look: the bytes of a record, no bytes for an empty reel, and `None` for a mark.
-type Found = Result<Option<&'static [u8]>, LookFault>;
+type Found = Result<Option<&'static [u8]>, TapeFault>;
 
 /// The replies of the peer, what it is sent, and what is found.
 type Row = (&'static [Replies], &'static [u8], Found);
@@ -41,9 +40,9 @@ static ROWS: [Row; 7] = [
     (
         &[&[b"E6\nDevice not configured\n"]],
         b"O/dev/st0\n0\n",
-        Err(LookFault::Refused {
-            asked: LookRequest::Open,
-            number: 6,
+        Err(TapeFault {
+            request: TapeRequest::Open,
+            cause: TapeCause::Refused(6),
         }),
     ),
     (
@@ -54,25 +53,31 @@ static ROWS: [Row; 7] = [
             b"E9\nBad file descriptor\n",
         ]],
         b"O/dev/st0\n0\nI5\n1\nR1024\nC\n",
-        Err(LookFault::Refused {
-            asked: LookRequest::Read,
-            number: 5,
+        Err(TapeFault {
+            request: TapeRequest::Read,
+            cause: TapeCause::Refused(5),
         }),
     ),
     (
         &[&[b"A0\n", b"A1\n", b"A3\nabc"]],
         b"O/dev/st0\n0\nI5\n1\nR1024\nC\n",
-        Err(LookFault::NoReply(CallFault::ConnectionEnded)),
+        Err(TapeFault {
+            request: TapeRequest::Close,
+            cause: TapeCause::NoReply(CallFault::ConnectionEnded),
+        }),
     ),
     (
         &[],
         b"",
-        Err(LookFault::NoReply(CallFault::ConnectionEnded)),
+        Err(TapeFault {
+            request: TapeRequest::Open,
+            cause: TapeCause::NoReply(CallFault::ConnectionEnded),
+        }),
     ),
 ];
 
 /// Whether a look found this.
-fn is_found(found: &Result<ReelFront, LookFault>, wanted: Found) -> bool {
+fn is_found(found: &Result<ReelFront, TapeFault>, wanted: Found) -> bool {
     match (found, wanted) {
         (Ok(ReelFront::Record(bytes)), Ok(Some(wanted))) => bytes.as_slice() == wanted,
         (Ok(ReelFront::Empty), Ok(Some(wanted))) => wanted.is_empty(),

@@ -5,9 +5,9 @@ use super::check_row;
 use super::fake::{FakePeer, Replies};
 use super::fixture::DEVICE;
 use rdump_net::{
-    AfterVolume, CallFault, ReadFault, SinkStopped, Verdict, VolumeRequest, VolumeSink,
-    copy_volume, read_volume,
+    AfterVolume, ReadFault, SinkStopped, Verdict, VolumeSink, copy_volume, read_volume,
 };
+use remote_tape::{CallFault, TapeCause, TapeFault, TapeRequest};
 use rmt_wire::Counted;
 use std::alloc::Global;
 use std::io::Write;
@@ -108,32 +108,38 @@ static COPIES: [Row; 7] = [
     (&[&[b"A0\n", b"A1\n", b"A2\nab", b"A0\n", b"A0\n"]], Ok(())),
     (
         &[&[b"E6\nDevice not configured\n"]],
-        Err(ReadFault::Refused {
-            asked: VolumeRequest::Open,
-            number: 6,
-        }),
+        Err(ReadFault::Tape(TapeFault {
+            request: TapeRequest::Open,
+            cause: TapeCause::Refused(6),
+        })),
     ),
     (
         &[&[b"A0\n", b"A1\n", b"A1\na", b"E5\nInput/output error\n"]],
-        Err(ReadFault::Refused {
-            asked: VolumeRequest::Read,
-            number: 5,
-        }),
+        Err(ReadFault::Tape(TapeFault {
+            request: TapeRequest::Read,
+            cause: TapeCause::Refused(5),
+        })),
     ),
     (
         &[&[b"A0\n", b"A1\n", b"A0\n", b"E9\nBad file descriptor\n"]],
-        Err(ReadFault::Refused {
-            asked: VolumeRequest::Close,
-            number: 9,
-        }),
+        Err(ReadFault::Tape(TapeFault {
+            request: TapeRequest::Close,
+            cause: TapeCause::Refused(9),
+        })),
     ),
     (
         &[&[b"A0\n", b"A1\n", b"A5\nab"]],
-        Err(ReadFault::ConnectionEnded),
+        Err(ReadFault::Tape(TapeFault {
+            request: TapeRequest::Read,
+            cause: TapeCause::NoReply(CallFault::ConnectionEnded),
+        })),
     ),
     (
         &[&[b"A0\n", b"A1\n", b"A262145\n"]],
-        Err(ReadFault::Botched),
+        Err(ReadFault::Tape(TapeFault {
+            request: TapeRequest::Read,
+            cause: TapeCause::NoReply(CallFault::Botched),
+        })),
     ),
     (&[&[b"A0\n", b"A1\n", b"A3\nabc"]], Err(ReadFault::Stopped)),
 ];
@@ -204,10 +210,10 @@ static OFFLINES: [OfflineRow; 11] = [
             b"E5\nInput/output error\n",
         ]],
         b"O/dev/st0\n0\nI5\n1\nR262144\nR262144\nI4\n1\nI5\n1\nI3\n1\nI1\n1\nI6\n1\n",
-        Err(ReadFault::Refused {
-            asked: VolumeRequest::Offline,
-            number: 5,
-        }),
+        Err(ReadFault::Tape(TapeFault {
+            request: TapeRequest::Offline,
+            cause: TapeCause::Refused(5),
+        })),
     ),
     (
         &[&[
@@ -223,10 +229,10 @@ static OFFLINES: [OfflineRow; 11] = [
             b"E9\nBad file descriptor\n",
         ]],
         b"O/dev/st0\n0\nI5\n1\nR262144\nR262144\nI4\n1\nI5\n1\nI3\n1\nI1\n1\nI6\n1\nC\n",
-        Err(ReadFault::Refused {
-            asked: VolumeRequest::Close,
-            number: 9,
-        }),
+        Err(ReadFault::Tape(TapeFault {
+            request: TapeRequest::Close,
+            cause: TapeCause::Refused(9),
+        })),
     ),
     (
         &[&[
@@ -240,23 +246,26 @@ static OFFLINES: [OfflineRow; 11] = [
             b"A1\n",
         ]],
         b"O/dev/st0\n0\nI5\n1\nR262144\nR262144\nI4\n1\nI5\n1\nI3\n1\nI1\n1\nI6\n1\n",
-        Err(ReadFault::ConnectionEnded),
+        Err(ReadFault::Tape(TapeFault {
+            request: TapeRequest::Offline,
+            cause: TapeCause::NoReply(CallFault::ConnectionEnded),
+        })),
     ),
     (
         &[&[b"A0\n", b"E5\nInput/output error\n"]],
         b"O/dev/st0\n0\nI5\n1\n",
-        Err(ReadFault::Refused {
-            asked: VolumeRequest::Rewind,
-            number: 5,
-        }),
+        Err(ReadFault::Tape(TapeFault {
+            request: TapeRequest::Rewind,
+            cause: TapeCause::Refused(5),
+        })),
     ),
     (
         &[&[b"A0\n", b"A1\n", b"A1\na", b"E5\nInput/output error\n"]],
         b"O/dev/st0\n0\nI5\n1\nR262144\nR262144\n",
-        Err(ReadFault::Refused {
-            asked: VolumeRequest::Read,
-            number: 5,
-        }),
+        Err(ReadFault::Tape(TapeFault {
+            request: TapeRequest::Read,
+            cause: TapeCause::Refused(5),
+        })),
     ),
     (
         &[&[b"A0\n", b"A1\n", b"A3\nabc", b"A0\n", b"A1\n", b"A0\n"]],
@@ -437,10 +446,10 @@ fn volumes_are_given_to_a_sink(rt: HostRuntime) {
 
 #[test]
 fn a_fault_is_told(rt: HostRuntime) {
-    let refused = ReadFault::Refused {
-        asked: VolumeRequest::Rewind,
-        number: 5,
-    };
+    let refused = ReadFault::Tape(TapeFault {
+        request: TapeRequest::Rewind,
+        cause: TapeCause::Refused(5),
+    });
     let mut room = [0; 22];
     let told = write!(room.as_mut_slice(), "{refused}").is_ok();
     assert!(rt; told && room == *b"rewind refused with E5");

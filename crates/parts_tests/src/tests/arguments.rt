@@ -17,7 +17,7 @@ fn is_shown<T: Debug>(alloc: Global, value: &T, wanted: &str) -> bool {
 /// Arguments of `rdump`, and the text of what is read from them.
 type Row = (&'static [&'static str], &'static str);
 
-static ROWS: [Row; 14] = [
+static ROWS: [Row; 12] = [
     (
         &["rdump", "dates", "--file", "f"],
         "Ok(Dates { file: \"f\", asked: None })",
@@ -56,32 +56,7 @@ static ROWS: [Row; 14] = [
         &[
             "rdump", "read", "--to", "h:1", "--device", "d", "--out", "o",
         ],
-        "Ok(Read(ReadLine { to: \"h:1\", device: \"d\", timeout: None, out: \"o\", place: false, all: false, length: None, sums: None }))",
-    ),
-    (
-        &[
-            "rdump",
-            "read",
-            "--to=h:1",
-            "--device=d",
-            "--out=o",
-            "--place",
-            "--length=9223372036854775807",
-        ],
-        "Ok(Read(ReadLine { to: \"h:1\", device: \"d\", timeout: None, out: \"o\", place: true, all: false, length: Some(9223372036854775807), sums: None }))",
-    ),
-    (
-        &[
-            "rdump",
-            "read",
-            "--to=h:1",
-            "--device=d",
-            "--out=o",
-            "--all",
-            "--length=0",
-            "--sums=s",
-        ],
-        "Ok(Read(ReadLine { to: \"h:1\", device: \"d\", timeout: None, out: \"o\", place: true, all: true, length: Some(0), sums: Some(\"s\") }))",
+        "Ok(Read(ReadLine { to: \"h:1\", device: \"d\", timeout: None, out: \"o\" }))",
     ),
     (
         &[
@@ -141,7 +116,7 @@ static ROWS: [Row; 14] = [
             "--timeout=0",
             "--out=o",
         ],
-        "Ok(Read(ReadLine { to: \"unix:/s\", device: \"d\", timeout: None, out: \"o\", place: false, all: false, length: None, sums: None }))",
+        "Ok(Read(ReadLine { to: \"unix:/s\", device: \"d\", timeout: None, out: \"o\" }))",
     ),
     (
         &[
@@ -212,9 +187,9 @@ static REFUSED: [Row; 12] = [
             "--to=h:1",
             "--device=d",
             "--out=o",
-            "--length=9223372036854775808",
+            "--all",
         ],
-        "error: invalid value for '--length <BYTES>': a length is 0 to 9223372036854775807, in digits",
+        "error: unexpected argument '--all' found",
     ),
     (
         &["rdump", "ls", "a", "--timeout=1"],

@@ -1,24 +1,24 @@
 //! What errors of a server mean, against words written by hand.
 
-use refusals::{Refusal, RefusedRequest, request_of};
+use refusals::{Refusal, TapeRequest, request_of};
 use std::alloc::AllocError;
 
 /// Requests, and which ones they are.
-static REQUESTS: [(&[u8], Option<RefusedRequest>); 16] = [
-    (b"O/dev/st0\n2\n", Some(RefusedRequest::Open)),
-    (b"C\n", Some(RefusedRequest::Close)),
-    (b"R1024\n", Some(RefusedRequest::Read)),
-    (b"W2\nhi", Some(RefusedRequest::Write)),
-    (b"I0\n1\n", Some(RefusedRequest::WriteMark)),
-    (b"I1\n1\n", Some(RefusedRequest::Space)),
-    (b"I2\n1\n", Some(RefusedRequest::Space)),
-    (b"I3\n1\n", Some(RefusedRequest::Space)),
-    (b"I4\n1\n", Some(RefusedRequest::Space)),
-    (b"I5\n1\n", Some(RefusedRequest::Rewind)),
-    (b"I6\n1\n", Some(RefusedRequest::Offline)),
-    (b"I7\n1\n", Some(RefusedRequest::Nop)),
+static REQUESTS: [(&[u8], Option<TapeRequest>); 16] = [
+    (b"O/dev/st0\n2\n", Some(TapeRequest::Open)),
+    (b"C\n", Some(TapeRequest::Close)),
+    (b"R1024\n", Some(TapeRequest::Read)),
+    (b"W2\nhi", Some(TapeRequest::Write)),
+    (b"I0\n1\n", Some(TapeRequest::WriteMark)),
+    (b"I1\n1\n", Some(TapeRequest::Space)),
+    (b"I2\n1\n", Some(TapeRequest::Space)),
+    (b"I3\n1\n", Some(TapeRequest::Space)),
+    (b"I4\n1\n", Some(TapeRequest::Space)),
+    (b"I5\n1\n", Some(TapeRequest::Rewind)),
+    (b"I6\n1\n", Some(TapeRequest::Offline)),
+    (b"I7\n1\n", Some(TapeRequest::Nop)),
     (b"I", None),
-    (b"W2", Some(RefusedRequest::Write)),
+    (b"W2", Some(TapeRequest::Write)),
     (b"L0\n0\n", None),
     (b"", None),
 ];
@@ -31,33 +31,33 @@ fn requests_are_told_apart(rt: HostRuntime) {
 }
 
 /// Refused requests, each with its number, the name of the drive and the text.
-static TEXTS: [(RefusedRequest, u32, &str, &str); 5] = [
+static TEXTS: [(TapeRequest, u32, &str, &str); 5] = [
     (
-        RefusedRequest::Open,
+        TapeRequest::Open,
         6,
         "/dev/st0",
         "no reel is on the stack of /dev/st0: put one into its folder",
     ),
     (
-        RefusedRequest::Open,
+        TapeRequest::Open,
         2,
         "/dev/\x1bst9",
         "the server has no drive /dev/?st9: correct --device, or the arguments of the server",
     ),
     (
-        RefusedRequest::Rewind,
+        TapeRequest::Rewind,
         5,
         "/dev/st0",
         "the drive /dev/st0 failed: the server's log has the reason",
     ),
     (
-        RefusedRequest::LongWrite,
+        TapeRequest::LongWrite,
         22,
         "/dev/st0",
         "an older server takes blocks of at most 65,536 bytes: use a smaller --block",
     ),
     (
-        RefusedRequest::Close,
+        TapeRequest::Close,
         1,
         "/dev/st0",
         "Operation not permitted (os error 1)",

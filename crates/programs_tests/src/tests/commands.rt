@@ -111,10 +111,6 @@ fn a_volume_of_no_server(rt: HostRuntime) {
         device: "d",
         timeout: None,
         out: "volume",
-        place: false,
-        all: false,
-        length: None,
-        sums: None,
     };
     assert!(rt; run_read(&rt, line, NO_TERMINAL) == ExitStatus::Abnormal);
     assert!(rt; fs::remove_file(&rt, "volume").is_err());
@@ -128,10 +124,6 @@ fn a_volume_of_no_server_by_a_link(rt: HostRuntime) -> Result<(), Fail> {
         device: "d",
         timeout: None,
         out: "led",
-        place: false,
-        all: false,
-        length: None,
-        sums: None,
     };
     symlink(&rt, "far", "led")?;
     let status = run_read(&rt, line, NO_TERMINAL);

@@ -1,7 +1,7 @@
 //! The log of what passed between a caller and a peer in memory.
 ghost use Rattle.std.specs.Prelude.{◌≡◌, ◌∷◌, ◌++◌, [], IsTrue, map, replicate};
-ghost use Rattle.rdump_net.specs.Peer.{Logs};
-ghost use Rattle.rdump_net.specs.declared.peer.Passed.TheVariants.{Connected, Sent, Given, Ended};
+ghost use Rattle.remote_tape.specs.Peer.{Logs};
+ghost use Rattle.remote_tape.specs.declared.peer.Passed.TheVariants.{Connected, Sent, Given, Ended};
 ghost use Rattle.rmt_tools.specs.Telling.{IsLogOf, events_if};
 
 use rdump_net::Passed;

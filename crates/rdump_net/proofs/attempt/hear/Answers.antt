@@ -1,5 +1,6 @@
 use Rattle.rdump_net.proofs.Words.{[], ◌++◌, take, arith, ends, hears, unanswered}
-use Rattle.rdump_net.proofs.Talking.{one_call, kept_source, followed, hung_up, none_given, some_given}
+use Rattle.rdump_net.proofs.Talking.{one_call, kept_source, followed, hung_up}
+use Rattle.remote_tape.proofs.Given.{none_given, some_given}
 use Rattle.rdump_net.proofs.attempt.hear.Goals as goal
 
 pub returns-then-count-eq-NO_BYTES : goal.returns-then-count-eq-NO_BYTES

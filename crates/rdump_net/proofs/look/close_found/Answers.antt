@@ -1,12 +1,11 @@
-use Rattle.rdump_net.proofs.Words.{refl, plain_front, Front, Closed, Closing, is_fault}
-use Rattle.rdump_net.specs.declared.look.LookRequest.TheVariants as asked
-use Rattle.rdump_net.proofs.Looking.{failed_part}
+use Rattle.rdump_net.proofs.Words.{Front, Closed, Closing, plain_front, refl, is_fault}
+use Rattle.refusals.specs.declared.request.TapeRequest.TheVariants as asked
+use Rattle.rdump_net.proofs.Looking.{done_part, failed_part}
 use Rattle.rdump_net.proofs.look.close_found.Goals as goal
 
-pub returns-in_err-ask : goal.returns-in_err-ask
-returns-in_err-ask g c = λ device.
-    let at = Closing (Front (plain_front c.args.front)) in
-    rw (is_fault c.from_residual.ensures.1) (failed_part _ _ _ _ at Closed asked.Close c.in_err-ask.field-0.0 (λ n text. refl) (c.in_err-ask.ensures device at refl))
+pub returns-in_err-close : goal.returns-in_err-close
+returns-in_err-close g c = λ device.
+    rw (is_fault c.from_residual.ensures.1) (failed_part g.P.Peer.tells device _ _ (Closing (Front (plain_front c.args.front))) Closed asked.Close c.in_err-close.field-0.0 refl (λ n text. refl) c.in_err-close.ensures)
 
 pub returns : goal.returns
-returns g c = λ device. (c.in_ok-ask.ensures device (Closing (Front (plain_front c.args.front))) refl).1
+returns g c = λ device. done_part asked.Close (Closing (Front (plain_front c.args.front))) refl c.in_ok-close.ensures

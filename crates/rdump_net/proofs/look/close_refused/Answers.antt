@@ -1,12 +1,15 @@
-use Rattle.rdump_net.proofs.Words.{refl, Refusal, Closing}
+use Rattle.rdump_net.proofs.Words.{Closed, Closing, Error, Refusal, refl}
+use Rattle.refusals.specs.declared.request.TapeRequest.TheVariants as asked
+use Rattle.rdump_net.proofs.Looking.{done_part, fails_by, goes_by}
 use Rattle.rdump_net.proofs.look.close_refused.Goals as goal
 
 pub returns-in-Ok : goal.returns-in-Ok
-returns-in-Ok g c = λ device. (c.in-Ok.ensures device (Closing (Refusal c.args.refused c.args.number)) refl).1
+returns-in-Ok g c = λ device. done_part asked.Close (Closing (Refusal c.args.refused c.args.number)) refl c.in-Ok.ensures
 
-pub returns-in-Err-Refused : goal.returns-in-Err-Refused
-returns-in-Err-Refused g c = λ device.
-    (rw c.in-Err-Refused.field-0-is at (c.in-Err-Refused.ensures device (Closing (Refusal c.args.refused c.args.number)) refl)).1.1
+pub returns-in-Refused : goal.returns-in-Refused
+returns-in-Refused g c = λ device.
+    let h = rw c.in-Refused.is at c.in-Err.ensures.1 in goes_by (Closing (Refusal c.args.refused c.args.number)) (Error c.in-Refused.field-0 h.0) refl h.1
 
-pub returns-in-Err-NoReply : goal.returns-in-Err-NoReply
-returns-in-Err-NoReply g c = λ device. rw c.in-Err-NoReply.field-0-is at (c.in-Err-NoReply.ensures device (Closing (Refusal c.args.refused c.args.number)) refl)
+pub returns-in-NoReply : goal.returns-in-NoReply
+returns-in-NoReply g c = λ device.
+    let h = rw c.in-NoReply.is at c.in-Err.ensures.1 in rw c.in-NoReply.is (fails_by (Closing (Refusal c.args.refused c.args.number)) c.in-NoReply.field-0 refl h)

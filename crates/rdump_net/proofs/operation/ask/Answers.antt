@@ -1,5 +1,5 @@
-use Rattle.rdump_net.proofs.Words.{◌≡◌, [], ◌∷◌, arith, true, false, refl, plain_kept, plain_result, is_done, is_fault}
-use Rattle.rdump_net.proofs.Calls.{call_finishes, reply_extends}
+use Rattle.rdump_net.proofs.Words.{◌≡◌, [], ◌∷◌, arith, true, false, refl, plain_number, plain_result, is_done, is_fault}
+use Rattle.remote_tape.proofs.Calls.{call_finishes, reply_extends}
 use Rattle.rdump_net.proofs.Operating.{operation_asked}
 use Rattle.rdump_net.proofs.operation.ask.Goals as goal
 
@@ -11,10 +11,10 @@ returns-in_err-opened g c = rw (is_fault c.from_residual.ensures.1) ([], call_fi
 
 pub returns-then-not-is_done : goal.returns-then-not-is_done
 returns-then-not-is_done g c =
-    let unmet : is_done (plain_kept c.in_ok-opened.opened) ≡ false = (let h = c.is_done.ensures in let k = c.if-not-is_done.true in cc) in
+    let unmet : is_done (plain_number c.in_ok-opened.opened) ≡ false = (let h = c.is_done.ensures in let k = c.if-not-is_done.true in cc) in
     (_ ∷ [], reply_extends _ refl (rw c.mode_of-mode.ensures at c.in_ok-opened.ensures), rw unmet refl, rw unmet refl, λ closed. (rw unmet refl, rw unmet refl))
 
 pub returns : goal.returns
 returns g c =
-    let met : is_done (plain_kept c.in_ok-opened.opened) ≡ true = (let h = c.is_done.ensures in let k = c.if-not-is_done.false in cc) in
-    operation_asked g.P.Peer.tells c.args.device.now c.args.op c.args.count (plain_kept c.in_ok-opened.opened) (plain_result c.call-2.result) met (rw c.mode_of-mode.ensures at c.in_ok-opened.ensures) c.call-2.ensures
+    let met : is_done (plain_number c.in_ok-opened.opened) ≡ true = (let h = c.is_done.ensures in let k = c.if-not-is_done.false in cc) in
+    operation_asked g.P.Peer.tells c.args.device.now c.args.op c.args.count (plain_number c.in_ok-opened.opened) (plain_result c.call-2.result) met (rw c.mode_of-mode.ensures at c.in_ok-opened.ensures) c.call-2.ensures

@@ -1,5 +1,5 @@
 use Rattle.rdump_net.proofs.Words.{Some, [], ◌∷◌, true, refl, inr, Ended, ConnectionEnded, OutOfMemory, alone}
-use Rattle.rdump_net.proofs.Calls.{whole_talk}
+use Rattle.remote_tape.proofs.Calls.{whole_talk}
 use Rattle.rdump_net.proofs.Printed.{nothing_printed}
 use Rattle.rdump_net.proofs.operation.mt.Goals as goal
 

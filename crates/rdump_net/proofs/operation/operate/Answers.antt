@@ -1,5 +1,6 @@
-use Rattle.rdump_net.proofs.Words.{Some, true, refl, plain_kept, plain_result}
-use Rattle.rdump_net.proofs.Operating.{told_then_closed}
+use Rattle.rdump_net.proofs.Words.{Some, Close, true, refl, plain_number}
+use Rattle.rdump_net.proofs.Operating.{asked_call, told_then_closed}
+use Rattle.refusals.specs.declared.request.TapeRequest.TheVariants as asked
 use Rattle.rdump_net.proofs.Printed.{nothing_printed}
 use Rattle.rdump_net.proofs.operation.operate.Goals as goal
 
@@ -10,4 +11,5 @@ returns-in_default g c =
 
 pub returns : goal.returns
 returns g c =
-    told_then_closed g.P.Peer.tells c.args.device.now c.args.op c.args.count (plain_kept c.in-Ok.answer) (plain_result c.call.result) c.in-Ok.ensures c.print_reply-status.ensures c.call.ensures
+    let closed = asked_call g.P.Peer.tells _ _ Close asked.Close c.close.result c.close.ensures in
+    told_then_closed g.P.Peer.tells c.args.device.now c.args.op c.args.count (plain_number c.in-Ok.answer) closed.0 c.in-Ok.ensures c.print_reply-status.ensures closed.1

@@ -6,7 +6,7 @@ pub returns-in-Stay : goal.returns-in-Stay
 returns-in-Stay g c = (
   false,
   λ next replies at.
-      concluded_unasked c.args.sink.now (closed_done c.ask.result (λ ends. at ends ∙ rw c.in-Stay.is refl) (λ later on. rw c.in-Stay.is refl) c.ask.ensures),
+      concluded_unasked c.args.sink.now (closed_done c.close.result (λ ends. at ends ∙ rw c.in-Stay.is refl) (λ later on. rw c.in-Stay.is refl) c.close.ensures),
 )
 
 pub returns-in-Check : goal.returns-in-Check

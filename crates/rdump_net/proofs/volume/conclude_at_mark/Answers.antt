@@ -1,5 +1,6 @@
 use Rattle.rdump_net.proofs.Words.{[], ◌∷◌, refl, append-nil, true, false, Mark, Complete, accepted, stopped, refused, alone, is_fault}
-use Rattle.rdump_net.proofs.Marks.{concludes_failed, concluded_kept, on_first, taken_and_closed}
+use Rattle.rdump_net.proofs.Marks.{concludes_failed, concluded_kept, taken_and_closed}
+use Rattle.remote_tape.proofs.Searching.{on_first}
 use Rattle.rdump_net.proofs.volume.conclude_at_mark.Goals as goal
 
 pub returns-in_err-complete : goal.returns-in_err-complete
@@ -29,5 +30,5 @@ pub returns : goal.returns
 returns g c = (
   true,
   λ next replies some at found.
-      concluded_kept c.mark.new.self some found c.mark.ensures (rw c.in_ok-complete.was at c.complete.ensures) (taken_and_closed c.ask.result some found (c.in_ok-take_away.ensures next replies at) c.ask.ensures),
+      concluded_kept c.mark.new.self some found c.mark.ensures (rw c.in_ok-complete.was at c.complete.ensures) (taken_and_closed c.close.result some found (c.in_ok-take_away.ensures next replies at) c.close.ensures),
 )

@@ -8,23 +8,23 @@ loop-records-init g c = λ device after completed replies reading.
 
 pub returns-in_err-bytes : goal.returns-in_err-bytes
 returns-in_err-bytes g c = λ device after completed replies reading.
-    rw (is_fault c.from_residual.ensures.1) (given_so_far device after completed reading (c.loop-records.invariant device after completed replies reading) c.in_err-bytes.ensures)
+    rw (is_fault c.from_residual.ensures.1) (given_so_far device after completed reading (c.loop-records.invariant device after completed replies reading) c.in_err-bytes.field-0.0 c.in_err-bytes.ensures)
 
 pub returns-then-is_empty : goal.returns-then-is_empty
 returns-then-is_empty g c = λ device after completed replies reading.
-    given_all device after completed reading (c.loop-records.invariant device after completed replies reading) c.in_ok-bytes.bytes.items c.in_ok-bytes.ensures
-    (none_there c.in_ok-bytes.bytes c.is_empty.ensures c.if-is_empty.true)
+    given_all device after completed reading (c.loop-records.invariant device after completed replies reading) c.in_ok-bytes.bytes.now c.in_ok-bytes.ensures
+    (none_there c.in_ok-bytes.bytes.now c.is_empty.ensures c.if-is_empty.true)
 
 pub returns-in_err-block : goal.returns-in_err-block
 returns-in_err-block g c = λ device after completed replies reading.
-    rw (is_fault c.from_residual-in_err-block.ensures.1) (given_in_part device after completed reading (c.loop-records.invariant device after completed replies reading) c.in_ok-bytes.bytes.items c.in_ok-bytes.ensures
-    (some_there c.in_ok-bytes.bytes c.is_empty.ensures c.if-is_empty.false) (rw (c.deref.ensures.value, c.in_err-block.was) at c.block.ensures))
+    rw (is_fault c.from_residual-in_err-block.ensures.1) (given_in_part device after completed reading (c.loop-records.invariant device after completed replies reading) c.in_ok-bytes.bytes.now c.in_ok-bytes.ensures
+    (some_there c.in_ok-bytes.bytes.now c.is_empty.ensures c.if-is_empty.false) (rw (c.in_err-block.was) at c.block.ensures))
 
 pub loop-records-preserved : goal.loop-records-preserved
 loop-records-preserved g c = λ device after completed replies reading.
-    given_one device after completed reading (c.loop-records.invariant device after completed replies reading) c.in_ok-bytes.bytes.items c.in_ok-bytes.ensures
-    (some_there c.in_ok-bytes.bytes c.is_empty.ensures c.if-is_empty.false) (rw (c.deref.ensures.value, c.in_ok-block.was) at c.block.ensures)
+    given_one device after completed reading (c.loop-records.invariant device after completed replies reading) c.in_ok-bytes.bytes.now c.in_ok-bytes.ensures
+    (some_there c.in_ok-bytes.bytes.now c.is_empty.ensures c.if-is_empty.false) (rw (c.in_ok-block.was) at c.block.ensures)
 
 pub returns : goal.returns
 returns g c = λ device after completed replies reading.
-    given_for_good device after completed reading (c.loop-records.invariant device after completed replies reading) (let out = c.loop-records-test.false in omega arith)
+    given_for_good device after completed reading (c.loop-records.invariant device after completed replies reading) _ refl (let out = c.loop-records-test.false in omega arith)

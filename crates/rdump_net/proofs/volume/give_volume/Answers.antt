@@ -8,14 +8,14 @@ returns-in_err-label g c = λ device after completed replies fresh.
 
 pub returns-then-is_empty : goal.returns-then-is_empty
 returns-then-is_empty g c = λ device after completed replies fresh.
-    given_mark device after completed fresh c.args.sink.now c.in_ok-label.label.items c.in_ok-label.ensures (none_there c.in_ok-label.label c.is_empty.ensures c.if-is_empty.true)
+    given_mark device after completed fresh c.args.sink.now c.in_ok-label.label.now c.in_ok-label.ensures (none_there c.in_ok-label.label.now c.is_empty.ensures c.if-is_empty.true)
 
-pub returns : goal.returns
-returns g c = λ device after completed replies fresh.
-    given_unlabelled device after completed fresh c.in_ok-label.label.items c.in_ok-label.ensures (some_there c.in_ok-label.label c.is_empty.ensures c.if-is_empty.false)
-    (rw (c.deref.ensures.value, c.in-Stop.is) at c.label.ensures)
+pub returns-in-Stop : goal.returns-in-Stop
+returns-in-Stop g c = λ device after completed replies fresh.
+    given_unlabelled device after completed fresh c.in_ok-label.label.now c.in_ok-label.ensures (some_there c.in_ok-label.label.now c.is_empty.ensures c.if-is_empty.false)
+    (rw (c.in-Stop.is) at c.label.ensures)
 
 pub returns-in-GoOn : goal.returns-in-GoOn
 returns-in-GoOn g c = λ device after completed replies fresh.
-    given_so device after completed fresh c.in_ok-label.label.items c.in_ok-label.ensures (some_there c.in_ok-label.label c.is_empty.ensures c.if-is_empty.false)
-    (rw (c.deref.ensures.value, c.in-GoOn.is) at c.label.ensures) (c.give_records.ensures device after completed (replies ++ Data c.in_ok-label.label.items ∷ []))
+    given_so device after completed fresh c.in_ok-label.label.now c.in_ok-label.ensures (some_there c.in_ok-label.label.now c.is_empty.ensures c.if-is_empty.false)
+    (rw (c.in-GoOn.is) at c.label.ensures) (c.give_records.ensures device after completed (replies ++ Data c.in_ok-label.label.now ∷ []))

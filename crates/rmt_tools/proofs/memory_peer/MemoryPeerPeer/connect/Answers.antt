@@ -1,5 +1,5 @@
 use Rattle.std.proofs.Common.{[], ◌∷◌}
-use Rattle.rdump_net.specs.declared.peer.Passed.TheVariants.{Connected, Ended}
+use Rattle.remote_tape.specs.declared.peer.Passed.TheVariants.{Connected, Ended}
 use Rattle.rmt_tools.proofs.Logging.{after_none, none_where}
 use Rattle.rmt_tools.proofs.Renewing.{stays_cleared}
 use Rattle.rmt_tools.proofs.memory_peer.MemoryPeerPeer.connect.Goals as goal

@@ -1,5 +1,5 @@
 use Rattle.std.proofs.Common.{◌<◌, [], ◌∷◌, length, map, take, ap, rules}
-use Rattle.rdump_net.specs.declared.peer.Passed.TheVariants.{Given, Ended}
+use Rattle.remote_tape.specs.declared.peer.Passed.TheVariants.{Given, Ended}
 use Rattle.rmt_tools.specs.Telling.{MemoryPeerHeld}
 use Rattle.rmt_tools.proofs.Logging.{after_none, from_seen, none_where, all_where, end_given, bytes_given}
 use Rattle.rmt_tools.proofs.memory_peer.MemoryPeerPeer.receive.Goals as goal

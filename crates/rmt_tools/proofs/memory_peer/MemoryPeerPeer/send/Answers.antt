@@ -1,6 +1,6 @@
 use Rattle.std.proofs.Common.{◌∷◌, ◌++◌, [], length, map, refl, ap, sym}
 use Rattle.std.proofs.Math.Seq.{take-length}
-use Rattle.rdump_net.specs.declared.peer.Passed.TheVariants.{Sent, Ended}
+use Rattle.remote_tape.specs.declared.peer.Passed.TheVariants.{Sent, Ended}
 use Rattle.rmt_tools.specs.Telling.{MemoryPeerHeld}
 use Rattle.rmt_tools.proofs.Logging.{after_none, after_some, from_seen, none_where, all_where}
 use Rattle.rmt_tools.proofs.memory_peer.MemoryPeerPeer.send.Goals as goal

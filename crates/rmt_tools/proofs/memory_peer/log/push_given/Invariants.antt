@@ -1,6 +1,6 @@
 use Rattle.std.proofs.Common.{◌≡◌, ◌++◌, ◌+◌, ◌≤◌, length, map, take}
 use Rattle.std.specs.Vec.{vec_capacity, vec_len}
-use Rattle.rdump_net.specs.declared.peer.Passed.TheVariants.{Given}
+use Rattle.remote_tape.specs.declared.peer.Passed.TheVariants.{Given}
 use Rattle.rmt_tools.proofs.memory_peer.log.push_given.Given as goal
 
 abbrev pub invariant-loop-byte : goal.invariant-loop-byte

@@ -1,7 +1,7 @@
 use Rattle.std.proofs.Common.{Bool, true, false, ℕ, List, [], ◌∷◌, map, refl}
-use Rattle.rdump_net.specs.Peer.{AreBytesSent}
-use Rattle.rdump_net.specs.declared.peer.Passed.{Passed}
-use Rattle.rdump_net.specs.declared.peer.Passed.TheVariants.{Sent, Ended}
+use Rattle.remote_tape.specs.Peer.{AreBytesSent}
+use Rattle.remote_tape.specs.declared.peer.Passed.{Passed}
+use Rattle.remote_tape.specs.declared.peer.Passed.TheVariants.{Sent, Ended}
 use Rattle.client_tests.proofs.tests.fake.FakePeerPeer.send.Goals as goal
 
 -- what may have been passed to a peer: all bytes, or none of them and an end

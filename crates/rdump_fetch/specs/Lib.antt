@@ -1,0 +1,8 @@
+-- In reading order: Name (the name of a copy); Copy (the copy of a reel, and how it is made); Memory
+-- (a copy in memory); Sink (what a sink that makes a copy does with a volume); Fetch (the copy of a
+-- whole reel).
+pub mod Name
+pub mod Copy
+pub mod Memory
+pub mod Sink
+pub mod Fetch

@@ -1,0 +1,7 @@
+pub mod Basics
+pub mod Words
+pub mod Given
+pub mod Heard
+pub mod Calls
+pub mod Received
+pub mod Searching

@@ -1,0 +1,338 @@
+//! A tape drive at the far end of a connection.
+ghost use Rattle.std.specs.Prelude.{◌≡◌, ◌⊎◌, ◌<◌, ◌≤◌, ◌-◌, ℕ, List, ◌++◌, Some, box_value, drop, take};
+ghost use Rattle.rmt_wire.specs.Lent.{plain_request, plain_wanted};
+ghost use Rattle.rmt_wire.specs.Number.{IsLine};
+ghost use Rattle.rmt_wire.specs.Reply as kinds;
+ghost use Rattle.rmt_wire.specs.Reply.Wanted.{Number};
+ghost use Rattle.rmt_wire.specs.Request as requests;
+ghost use Rattle.rmt_wire.specs.declared.limits.TheConstants.{NUMBER_LIMIT, READER_LIMIT, RECORD_LIMIT};
+ghost use Rattle.rmt_wire.specs.declared.mtio.TheConstants.{MTREW, MTOFFL};
+ghost use Rattle.rmt_wire.specs.ReplyReader.{IsWithin, ReplyUnread};
+ghost use Rattle.refusals.specs.declared.request.TapeRequest.TheVariants as named;
+ghost use Rattle.remote_tape.specs.Call.{plain_result, wanted_by, IsReplyAwaited, IsFront, IsTaken, IsHeld, IsExchanged, IsCalled};
+ghost use Rattle.remote_tape.specs.Tape.{IsAsked, IsRecordRead, IsSpace};
+
+use crate::Peer;
+use crate::fault::{CallFault, TapeCause, TapeFault};
+use crate::reply::{TapeReply, keep};
+use refusals::TapeRequest;
+use rmt_wire::mtio::{MTOFFL, MTREW};
+use rmt_wire::{READER_LIMIT, ReplyReader, Request, Wanted, push_request};
+use std::alloc::{AllocError, Global};
+
+/// Sends requests to a tape drive over a peer. It holds the buffers for a request, for received
+/// bytes, and for the reply.
+///
+/// No request affects a later one: its promises hold after any earlier one, even a failed one, and
+/// with any peer. After a request that got no reply, the caller should send nothing more over that
+/// connection.
+#[derive(Drop)]
+pub struct RemoteTape {
+    alloc: Global,
+    reader: ReplyReader,
+    text: Vec<u8>,
+    received: Box<[u8; READER_LIMIT]>,
+}
+
+impl RemoteTape {
+    /// Makes a `RemoteTape`. The call allocates `rmt_wire::READER_LIMIT` bytes twice, and fails only
+    /// if these allocations fail.
+    pub fn new(alloc: Global) -> Result<RemoteTape, AllocError> {
+        let Ok(received) = Box::new(alloc, [0; READER_LIMIT]) else {
+            return Err(AllocError);
+        };
+        Ok(RemoteTape {
+            alloc,
+            reader: ReplyReader::new(alloc)?,
+            text: Vec::new(alloc),
+            received,
+        })
+    }
+
+    /// Opens a device with this mode.
+    ///
+    /// The device is one line of at most `LINE_LIMIT` bytes, and the mode is at most
+    /// `NUMBER_LIMIT`.
+    pub fn open<P: Peer>(&mut self, peer: &mut P, device: &[u8], mode: u32) -> Result<(), TapeFault>
+        requires device { IsLine device.now }
+        requires mode { mode ≤ NUMBER_LIMIT }
+        // If the peer's log is known, the call sends the open of the given device with the given
+        // mode once, and sends nothing else. If the call succeeds, the peer's reply is a number.
+        // Otherwise the fault names the open. The fault also says with which error the server
+        // refused the open, or why there is no reply.
+        ensures { IsAsked P.tells named.Open (requests.PlainRequest.Open device.now mode) peer.old peer.new result }
+    {
+        self.ask(peer, TapeRequest::Open, &Request::Open { device, mode })
+    }
+
+    /// Rewinds the reel.
+    pub fn rewind<P: Peer>(&mut self, peer: &mut P) -> Result<(), TapeFault>
+        // The call sends a rewind as `open` sends an open. A fault names the rewind.
+        ensures { IsAsked P.tells named.Rewind (requests.PlainRequest.Op MTREW 1) peer.old peer.new result }
+    {
+        let rewind = Request::Op {
+            op: MTREW,
+            count: 1,
+        };
+        self.ask(peer, TapeRequest::Rewind, &rewind)
+    }
+
+    /// Spaces over this many marks or records: `op` is `MTFSF`, `MTBSF`, `MTFSR` or `MTBSR`. The
+    /// count is at most `NUMBER_LIMIT`.
+    pub fn space<P: Peer>(&mut self, peer: &mut P, op: u32, count: u32) -> Result<(), TapeFault>
+        requires op { IsSpace op }
+        requires count { count ≤ NUMBER_LIMIT }
+        // The call sends the given operation with the given count as `open` sends an open. A fault
+        // names it a space.
+        ensures { IsAsked P.tells named.Space (requests.PlainRequest.Op op count) peer.old peer.new result }
+    {
+        self.ask(peer, TapeRequest::Space, &Request::Op { op, count })
+    }
+
+    /// Moves the reel to the bin (`MTOFFL`).
+    pub fn offline<P: Peer>(&mut self, peer: &mut P) -> Result<(), TapeFault>
+        // The call sends MTOFFL 1 as `open` sends an open. A fault names it an offline.
+        ensures { IsAsked P.tells named.Offline (requests.PlainRequest.Op MTOFFL 1) peer.old peer.new result }
+    {
+        let offline = Request::Op {
+            op: MTOFFL,
+            count: 1,
+        };
+        self.ask(peer, TapeRequest::Offline, &offline)
+    }
+
+    /// Closes the device.
+    pub fn close<P: Peer>(&mut self, peer: &mut P) -> Result<(), TapeFault>
+        // The call sends a close as `open` sends an open. A fault names the close.
+        ensures { IsAsked P.tells named.Close requests.PlainRequest.Close peer.old peer.new result }
+    {
+        self.ask(peer, TapeRequest::Close, &Request::Close)
+    }
+
+    /// Reads the next record from the open drive: at most `most` bytes of it. Lends the bytes from
+    /// the buffer that they came into. There are none at a mark or at the end of the reel.
+    ///
+    /// `most` is at most `RECORD_LIMIT`.
+    pub fn read<P: Peer>(&mut self, peer: &mut P, most: u32) -> Result<&[u8], TapeFault>
+        requires { most ≤ RECORD_LIMIT }
+        // If the peer's log is known, the call sends one read of at most the given number of bytes,
+        // and nothing else. If the call succeeds, the bytes are exactly the data of the reply that
+        // the peer sent. Otherwise the fault names the read, and has the error number of the
+        // refusal, or why there is no reply.
+        ensures { IsRecordRead P.tells most peer.old peer.new result }
+    {
+        match self.exchange(peer, &Request::Read { count: most }) {
+            Ok((TapeReply::Done { number }, len)) => Ok(last_bytes(&*self.received, number, len)),
+            Ok((TapeReply::Error { number, .. }, _)) => Err(TapeFault {
+                request: TapeRequest::Read,
+                cause: TapeCause::Refused(number),
+            }),
+            Err(fault) => Err(TapeFault {
+                request: TapeRequest::Read,
+                cause: TapeCause::NoReply(fault),
+            }),
+        }
+    }
+
+    /// Sends a request whose reply is a number once, and waits for the whole reply. An error of the
+    /// server is a reply too.
+    ///
+    /// The device of an open is one line of at most `LINE_LIMIT` bytes. A write has at most
+    /// `RECORD_LIMIT` bytes. All other numbers are at most `NUMBER_LIMIT`.
+    ///
+    /// It allocates for the request, and for the text of an error.
+    ///
+    /// Errors:
+    ///
+    /// - `OutOfMemory`: an allocation failed.
+    /// - `ConnectionEnded`: there is no connection, or it ended before the reply was whole.
+    /// - `Botched`: the bytes that came are no reply to the request, or more bytes follow the
+    ///   reply.
+    pub fn call<P: Peer>(
+        &mut self,
+        peer: &mut P,
+        request: &Request<'_>,
+    ) -> Result<TapeReply, CallFault>
+        requires spelling { requests.HasSpelling (plain_request request.now) }
+        requires number { wanted_by (plain_request request.now) ≡ Number }
+        // If the peer's log is known, the call sends the given request at most once, and sends
+        // nothing else. The call sends the bytes that `rmt_wire` writes for the request. If the
+        // connection ends while the call sends, only a beginning of these bytes is sent. If the
+        // call returns a reply, the call sent the whole request, and then the peer sent exactly
+        // this reply. The reply is an error or a number.
+        //
+        // If the call returns no reply, the call returns the reason. `ConnectionEnded` means that
+        // the connection ended during the request or the reply. `Botched` means that the received
+        // bytes are not a reply, or that more bytes follow the reply. `OutOfMemory` means that an
+        // allocation for the request or for a received reply failed.
+        ensures { IsCalled P.tells (plain_request request.now) (plain_result result) peer.old peer.new }
+    {
+        match self.exchange(peer, request) {
+            Ok((reply, _)) => Ok(reply),
+            Err(fault) => Err(fault),
+        }
+    }
+
+    /// Makes a request whose reply is a number, and which a fault names so.
+    fn ask<P: Peer>(
+        &mut self,
+        peer: &mut P,
+        name: TapeRequest,
+        request: &Request<'_>,
+    ) -> Result<(), TapeFault>
+        requires spelling { requests.HasSpelling (plain_request request.now) }
+        requires number { wanted_by (plain_request request.now) ≡ Number }
+        ensures { IsAsked P.tells name (plain_request request.now) peer.old peer.new result }
+    {
+        let cause = match self.call(peer, request) {
+            Ok(TapeReply::Done { .. }) => return Ok(()),
+            Ok(TapeReply::Error { number, .. }) => TapeCause::Refused(number),
+            Err(fault) => TapeCause::NoReply(fault),
+        };
+        Err(TapeFault {
+            request: name,
+            cause,
+        })
+    }
+
+    /// Sends a request once over the open connection, and waits for the whole reply. Returns the
+    /// reply, and how many bytes of `received` were filled last: the data of a read are at the end
+    /// of these.
+    fn exchange<P: Peer>(
+        &mut self,
+        peer: &mut P,
+        request: &Request<'_>,
+    ) -> Result<(TapeReply, usize), CallFault>
+        requires spelling { requests.HasSpelling (plain_request request.now) }
+        requires within { IsWithin (wanted_by (plain_request request.now)) }
+        ensures { IsExchanged P.tells (plain_request request.now) (box_value self.new.received) peer.old peer.new result }
+    {
+        self.text.clear();
+        let Ok(()) = push_request(&mut self.text, request) else {
+            return Err(CallFault::OutOfMemory);
+        };
+        if !peer.send(self.text.as_slice()) {
+            return Err(CallFault::ConnectionEnded);
+        }
+        hear(
+            self.alloc,
+            peer,
+            &mut self.reader,
+            &mut self.received,
+            wanted_of(request),
+        )
+    }
+}
+
+/// Returns the last `number` of the first `len` bytes.
+fn last_bytes(received: &[u8; READER_LIMIT], number: u64, len: usize) -> &[u8]
+    requires number { number ≤ len }
+    requires len { len ≤ READER_LIMIT }
+    ensures { result.now ≡ drop (len - number) (take len received.now) }
+{
+    &received[len - number as usize..len]
+}
+
+/// Returns the kind of reply that a request gets: data for a read, and a number for any other.
+fn wanted_of(request: &Request<'_>) -> Wanted
+    ensures { plain_wanted result ≡ wanted_by (plain_request request.now) }
+{
+    match *request {
+        Request::Read { count } => Wanted::Data(count),
+        _ => Wanted::Number,
+    }
+}
+
+/// Waits for a reply of this kind, which begins with the next byte that the peer sends. Bytes are
+/// received into `received`. Returns the reply, and how many bytes of `received` were filled last:
+/// the data of a read are at the end of these.
+///
+/// Fails with `ConnectionEnded` if the connection ends before the reply is whole, with `Botched` if
+/// the bytes are no such reply or more bytes follow it, and with `OutOfMemory` if an allocation
+/// fails.
+fn hear<P: Peer>(
+    alloc: Global,
+    peer: &mut P,
+    reader: &mut ReplyReader,
+    received: &mut [u8; READER_LIMIT],
+    wanted: Wanted,
+) -> Result<(TapeReply, usize), CallFault>
+    requires { IsWithin (plain_wanted wanted) }
+    ensures { IsHeld P.tells (plain_wanted wanted) received.new peer.old peer.new result }
+{
+    reader.clear();
+    reader.expect(wanted);
+    let mut len = 0;
+    for turn in 0..u64::MAX {
+        let at = room_at(len);
+        let count = peer.receive(&mut received[at..]);
+        if count == 0 {
+            return Err(CallFault::ConnectionEnded);
+        }
+        len = at + count;
+        match take(alloc, reader, &received[at..len]) {
+            Ok(None) => {}
+            Ok(Some(answer)) => return Ok((answer, len)),
+            Err(fault) => return Err(fault),
+        }
+    }
+    Err(CallFault::Botched)
+}
+
+/// Returns where to receive more bytes, after `len` bytes were received: behind these, or from the
+/// beginning if they fill the buffer. Only an error with a long text can fill it.
+fn room_at(len: usize) -> usize
+    requires { len ≤ READER_LIMIT }
+    ensures within { result < READER_LIMIT }
+    ensures at { (result ≡ len) ⊎ ((result ≡ 0) × (len ≡ READER_LIMIT)) }
+{
+    if len == READER_LIMIT { 0 } else { len }
+}
+
+/// Feeds received bytes to the reader. Returns the reply once it is whole, and None if all bytes so
+/// far are only its beginning.
+///
+/// Fails with `Botched` if the bytes are no reply or more bytes follow it, and with `OutOfMemory`
+/// if an allocation fails.
+fn take(
+    alloc: Global,
+    reader: &mut ReplyReader,
+    piece: &[u8],
+) -> Result<Option<TapeReply>, CallFault>
+    requires { (wanted : kinds.Wanted) × (bytes : List ℕ) × IsReplyAwaited wanted reader.old bytes }
+    ensures { (wanted : kinds.Wanted) (bytes : List ℕ) → IsReplyAwaited wanted reader.old bytes →
+        IsTaken wanted (bytes ++ piece.now) result reader.new }
+{
+    let mut at = 0;
+    while at < piece.len() {
+        at += reader.push(&piece[at..]);
+        match first_reply(alloc, reader) {
+            Ok(None) => {}
+            Ok(Some(answer)) => {
+                if at < piece.len() || !reader.is_empty() {
+                    return Err(CallFault::Botched);
+                }
+                return Ok(Some(answer));
+            }
+            Err(fault) => return Err(fault),
+        }
+    }
+    Ok(None)
+}
+
+/// Keeps the first reply in the reader's bytes, or returns None if it is not complete yet. Fails with
+/// `Botched` if the bytes are no reply, and with `OutOfMemory` if the allocation for the text of an
+/// error fails.
+fn first_reply(alloc: Global, reader: &mut ReplyReader) -> Result<Option<TapeReply>, CallFault>
+    ensures { (wanted : kinds.Wanted) (bytes : List ℕ) → ReplyUnread reader.old (Some wanted) bytes →
+        IsFront wanted bytes result reader.new }
+{
+    match reader.next() {
+        Ok(None) => Ok(None),
+        Ok(Some(reply)) => match keep(alloc, reply) {
+            Ok(answer) => Ok(Some(answer)),
+            Err(_) => Err(CallFault::OutOfMemory),
+        },
+        Err(_) => Err(CallFault::Botched),
+    }
+}
