@@ -1,16 +1,13 @@
 -- Calls over a peer, put together.
-use Rattle.remote_tape.proofs.Words.{◌≡◌, inl, map, ℕ, ◌-◌, List, [], ◌∷◌, ◌++◌, ◌≢◌, ◌≤◌, take, drop, length, Option, Some, None, Result, Ok, Err, Vec, Global, refl, sym, ap, subst, ◌∙◌, arith, append-nil, append_assoc, map-append, PlainReply, Data, Done, Error, Wanted, Number, ReplyHeld, PlainRequest, Read, wanted_by, IsCalled, IsPeerCall, IsExchanged, IsHeld, IsReplyHeard, IsTaken, TapeReply, plain_number, CallsFollow, Stops, Extends, Finishes, begins, Logs, CallFault, ConnectionEnded, Botched, OutOfMemory, given, Passed, Connected, Given, Sent, READER_LIMIT, both}
+use Rattle.remote_tape.proofs.Words.{◌≡◌, inl, inr, map, ℕ, ◌<◌, List, [], ◌∷◌, ◌++◌, ◌≢◌, ◌≤◌, take, length, Option, Some, None, Result, Ok, Err, refl, sym, ap, subst, arith, append-nil, append_assoc, map-append, PlainReply, Data, Done, Error, Wanted, Number, ReplyHeld, PlainRequest, wanted_by, Answers, IsCalled, IsPeerCall, IsReceivedFrom, IsReplyAwaited, IsReplyHeard, TapeReply, plain_number, CallsFollow, Stops, Extends, Finishes, begins, Logs, CallFault, OutOfMemory, given, Passed, Connected, Ended, Given, Sent, both}
 use Rattle.remote_tape.specs.Calls.CallsFollow.{one_more}
 use Rattle.remote_tape.specs.declared.reply.TapeReply.TheVariants as kept
 use Rattle.rmt_wire.specs.Request.{request_text}
-use Rattle.remote_tape.proofs.Given.{some_given}
+use Rattle.remote_tape.proofs.Given.{none_given, some_given}
 
 -- no reply is of the wrong kind
 pub no_data : (request : PlainRequest) (bytes : List ℕ) (passed : List Passed) → wanted_by request ≡ Number → IsPeerCall request (Ok (Data bytes)) passed → ⊥
 no_data request bytes passed w h = grind arith
-
-pub no_number : (n count : ℕ) (passed : List Passed) → IsPeerCall (Read count) (Ok (Done n)) passed → ⊥
-no_number n count passed h = grind arith
 
 module _ {P : Type 0} (tells : P → List Passed → Type 0) where
   -- bytes were given, and then more bytes
@@ -19,42 +16,38 @@ module _ {P : Type 0} (tells : P → List Passed → Type 0) where
   bytes_came {p} {q} {r} bytes room n logs within some told =
       subst (Logs tells p r) (sym (map-append Given bytes (take n room))) (both tells logs (subst (Logs tells q r) (some_given room n within some) told))
 
-  -- what was taken of the bytes fails
-  pub hears_fault : (wanted : Wanted) {p q : P} (bytes : List ℕ) (fault : CallFault) (new : ReplyHeld) → IsTaken wanted bytes (Err fault) new → Logs tells p q (map Given bytes)
-      → IsReplyHeard tells wanted (Err fault) p q
-  hears_fault wanted bytes ConnectionEnded new h logs = absurd h
-  hears_fault wanted bytes Botched new h logs = (map Given bytes, (bytes, h, refl), logs)
-  hears_fault wanted bytes OutOfMemory new h logs = (map Given bytes, (bytes, h.0, h.1, h.2, refl), logs)
+  -- a reader that waits received some bytes, or none
+  pub some_came : {p q r : P} (bytes : List ℕ) (old new : ReplyHeld) (count : ℕ) → Logs tells p q (map Given bytes) → (w : IsReceivedFrom tells q r old new count) → count ≢ 0
+      → Logs tells p r (map Given (bytes ++ take count w.room))
+  some_came bytes old new count logs w some = bytes_came bytes w.room count logs w.within some w.logs
+
+  pub none_came : {q r : P} (wanted : Wanted) (bytes : List ℕ) (old new : ReplyHeld) (count : ℕ) → IsReplyAwaited wanted old bytes → (w : IsReceivedFrom tells q r old new count) → count ≡ 0
+      → Logs tells q r (Ended ∷ [])
+  none_came {q} {r} wanted bytes old new count waits w none =
+      let taken = ap (length {A = ℕ}) waits.unread.keeps in
+      let some : 0 < length w.room = omega (arith, w.whole (Some wanted) bytes waits.unread, taken, waits.room) in
+      subst (Logs tells q r) (none_given w.room count some none) w.logs
 
   -- a request was sent, and a reply was awaited
-  heard_call : {p q r : P} (request : PlainRequest) (result : Result PlainReply CallFault) (sent : List Passed) → sent ≡ map Sent (request_text request) → Logs tells p q sent → IsReplyHeard tells (wanted_by request) result q r
+  pub heard_call : {p q r : P} (request : PlainRequest) (result : Result PlainReply CallFault) (sent : List Passed) → sent ≡ map Sent (request_text request) → Logs tells p q sent → IsReplyHeard tells (wanted_by request) result q r
       → IsCalled tells request result p r
   heard_call request result sent told logs heard = (sent ++ heard.0, inl (heard.0, heard.1, ap (λ s. s ++ heard.0) told), both tells logs heard.2)
 
-  pub exchanged : {p q : P} (r : P) (request : PlainRequest) (buffer : List ℕ) (result : Result (TapeReply × ℕ) CallFault) (sent : List Passed) → sent ≡ map Sent (request_text request) → Logs tells p q sent
-      → IsHeld tells (wanted_by request) buffer q r result → IsExchanged tells request buffer p r result
-  exchanged r request buffer (Ok got) sent told logs h = (h.0, h.1, h.2, heard_call request (Ok h.0) sent told logs h.3)
-  exchanged r request buffer (Err fault) sent told logs h = heard_call request (Err fault) sent told logs h
-
-  -- what came of a read
-  pub done_read : {p q : P} (most n len : ℕ) (buffer : List ℕ) → IsExchanged tells (Read most) buffer p q (Ok (kept.Done n, len)) → (n ≤ len) × (len ≤ READER_LIMIT) × IsCalled tells (Read most) (Ok (Data (drop (len - n) (take len buffer)))) p q
-  done_read most n len buffer (Done k, same, holds, h) = absurd (no_number k most h.0 h.1)
-  done_read {p} {q} most n len buffer (Data bytes, same, holds, h) =
-      (omega (arith, same, holds.0), holds.1, subst (λ b. IsCalled tells (Read most) (Ok (Data b)) p q) (sym (ap (λ k. drop (len - k) (take len buffer)) same ∙ holds.2)) h)
-  done_read most n len buffer (Error k text, same, holds, h) = absurd same
-
-  pub error_read : {p q : P} (request : PlainRequest) (n len : ℕ) (line : Vec ℕ Global) (buffer : List ℕ) → IsExchanged tells request buffer p q (Ok (kept.Error n line, len)) → (text : List ℕ) × IsCalled tells request (Ok (Error n text)) p q
-  error_read {p} {q} request n len line buffer (Error k text, same, holds, h) = (text, subst (λ m. IsCalled tells request (Ok (Error m text)) p q) (sym same.0) h)
-  error_read request n len line buffer (reply, same, holds, h) = absurd same
-
-  -- what came of a request whose reply is a number
-  pub number_called : {p q : P} (request : PlainRequest) (answer : TapeReply) (len : ℕ) (buffer : List ℕ) → wanted_by request ≡ Number → IsExchanged tells request buffer p q (Ok (answer, len)) → IsCalled tells request (Ok (plain_number answer)) p q
-  number_called {p} {q} request (kept.Done n) len buffer w (Done k, same, holds, h) = subst (λ m. IsCalled tells request (Ok (Done m)) p q) (sym same) h
-  number_called request (kept.Done n) len buffer w (Data bytes, same, holds, h) = absurd (no_data request bytes h.0 w h.1)
-  number_called request (kept.Done n) len buffer w (Error k text, same, holds, h) = absurd same
-  number_called {p} {q} request (kept.Error n line) len buffer w (Error k text, same, holds, h) =
+  -- what came of a request whose reply is a number, once the reply is kept
+  pub number_called : {p q : P} (request : PlainRequest) (answer : TapeReply) (reply : PlainReply) → wanted_by request ≡ Number → Answers answer reply → IsCalled tells request (Ok reply) p q
+      → IsCalled tells request (Ok (plain_number answer)) p q
+  number_called {p} {q} request (kept.Done n) (Done k) w same h = subst (λ m. IsCalled tells request (Ok (Done m)) p q) (sym same) h
+  number_called request (kept.Done n) (Data bytes) w same h = absurd (no_data request bytes h.0 w h.1)
+  number_called request (kept.Done n) (Error k text) w same h = absurd same
+  number_called {p} {q} request (kept.Error n line) (Error k text) w same h =
       subst (λ m. IsCalled tells request (Ok (Error m line.items)) p q) (sym same.0) (subst (λ t. IsCalled tells request (Ok (Error k t)) p q) (sym same.1) h)
-  number_called request (kept.Error n line) len buffer w (reply, same, holds, h) = absurd same
+  number_called request (kept.Error n line) reply w same h = absurd same
+
+  -- a reply came, for which there is no memory
+  pub unkept_called : {p q : P} (request : PlainRequest) (reply : PlainReply) → IsCalled tells request (Ok reply) p q → IsCalled tells request (Err OutOfMemory) p q
+  unkept_called request reply (passed, inl (more, (bytes, spelled, came), told), logs) = (passed, inl (more, (bytes, reply, [], (bytes, spelled, sym (append-nil bytes)), came), told), logs)
+  unkept_called request reply (passed, inr (inl other), logs) = absurd (let no = other.0 in cc)
+  unkept_called request reply (passed, inr (inr other), logs) = absurd (let no = other.0 in cc)
 
 module _ {P : Type 0} {next : List PlainReply → Option PlainRequest} {tells : P → List Passed → Type 0} where
   -- further calls, and then what they lead to

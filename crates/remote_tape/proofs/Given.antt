@@ -1,5 +1,5 @@
 -- What a read into some room gives.
-use Rattle.remote_tape.proofs.Words.{zero, suc, ℕ, List, [], ◌∷◌, ◌≡◌, ◌≢◌, ◌<◌, ◌≤◌, length, map, take, refl, arith, given, Passed, Ended, Given}
+use Rattle.remote_tape.proofs.Words.{zero, suc, ℕ, List, [], ◌∷◌, ◌≡◌, ◌≢◌, ◌<◌, ◌≤◌, length, map, take, refl, arith, given, Ended, Given}
 
 -- a read into some room gives the bytes that came, or if none came, the end
 pub some_given : (room : List ℕ) (n : ℕ) → n ≤ length room → n ≢ 0 → given room (take n room) ≡ map Given (take n room)

@@ -3,5 +3,4 @@ pub mod Words
 pub mod Given
 pub mod Heard
 pub mod Calls
-pub mod Received
 pub mod Searching

@@ -1,5 +1,5 @@
 -- The search for the mark behind the records, put together.
-use Rattle.remote_tape.proofs.Words.{◌≡◌, ℕ, List, [], ◌∷◌, ◌++◌, Option, Some, None, Result, Ok, Err, refl, sym, ap, subst, ◌∙◌, arith, true, false, nat_eq, if◌then◌else◌, append-nil, append_assoc, EIO, MTBSR, MTFSF, MTFSR, PlainReply, Done, Data, Error, PlainRequest, Op, IsCalled, Extends, Finishes, TapeRequest, TapeCause, TapeFault, MarkSearch, HasCause, IsAsked, IsNamed, IsSpace, records_of, next_again, next_back, next_close, next_over, HasNoReply, HasReply, HasSought, IsBeginningOf, IsMarkFound, GoesOnBy, StopsTheSearch, given_up_for, CallFault, Passed}
+use Rattle.remote_tape.proofs.Words.{◌≡◌, ℕ, List, [], ◌∷◌, ◌++◌, Option, Some, Result, Ok, Err, refl, sym, ap, subst, ◌∙◌, arith, true, false, nat_eq, if◌then◌else◌, append-nil, append_assoc, EIO, MTBSR, MTFSF, MTFSR, PlainReply, Done, Data, Error, PlainRequest, Op, IsCalled, Extends, TapeRequest, TapeCause, TapeFault, MarkSearch, HasCause, IsAsked, IsNamed, IsSpace, records_of, next_again, next_back, next_close, next_over, HasNoReply, HasSought, IsBeginningOf, GoesOnBy, StopsTheSearch, given_up_for, Passed}
 use Rattle.std.proofs.lemmas.Bool.Decides.{nat_tests}
 use Rattle.remote_tape.specs.Tape.{is_refused_with}
 use Rattle.remote_tape.specs.declared.fault.TapeCause.TheVariants.{Refused, NoReply}

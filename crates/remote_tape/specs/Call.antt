@@ -1,17 +1,19 @@
 -- A request to a peer, and its reply. A peer is the far end of a connection: what is sent over it
 -- goes through that connection. `p` and `p'` are the peer before and after, and `tells` relates a
 -- peer to what passed so far. Public contracts cite it.
-use Rattle.std.specs.Prelude.{◌≡◌, ◌≢◌, ◌⊎◌, ◌≤◌, ◌<◌, ◌-◌, ◌^◌, ℕ, false, List, [], ◌∷◌, ◌++◌, map, length, take, drop, Option, Some, None, Result, Ok, Err}
+use Rattle.std.specs.Prelude.{◌≡◌, ◌≢◌, ◌⊎◌, ◌≤◌, ◌<◌, ◌+◌, ◌-◌, ◌^◌, ℕ, false, List, [], ◌∷◌, ◌++◌, map, length, take, Option, Some, None, Result, Ok, Err}
 use Rattle.rmt_wire.specs.declared.limits.TheConstants.{READER_LIMIT}
+use Rattle.rmt_wire.specs.Lent.{plain_reply}
 use Rattle.rmt_wire.specs.Reply.{PlainReply, Wanted, SpellsReply}
 use Rattle.rmt_wire.specs.Reply.PlainReply.{Done, Data, Error}
 use Rattle.rmt_wire.specs.Reply.Wanted.{Number, DataUpTo}
 use Rattle.rmt_wire.specs.ReplyParts.{ReplyParsesAs}
-use Rattle.rmt_wire.specs.ReplyReader.{ReplyHeld, ReplyUnread}
+use Rattle.rmt_wire.specs.ReplyReader.{ReplyHeld, ReplyUnread, reply_taken_of}
 use Rattle.rmt_wire.specs.Request.{PlainRequest, request_text}
 use Rattle.rmt_wire.specs.Request.PlainRequest.{Open, Close, Write, WriteDropped, Read, Op}
 use Rattle.rmt_wire.specs.declared.fault.WireFault.{WireFault}
-use Rattle.remote_tape.specs.Peer.{AreBytesSent, Logs}
+use Rattle.rmt_wire.specs.declared.reply.Reply.{Reply}
+use Rattle.remote_tape.specs.Peer.{AreBytesSent, Logs, given}
 use Rattle.remote_tape.specs.declared.reply.TapeReply.{TapeReply}
 use Rattle.remote_tape.specs.declared.reply.TapeReply.TheVariants as kept
 use Rattle.remote_tape.specs.declared.fault.CallFault.{CallFault}
@@ -37,6 +39,11 @@ plain_number (kept.Error n text) = Error n text.items
 abbrev pub plain_result : Result TapeReply CallFault → Result PlainReply CallFault
 plain_result (Ok reply) = Ok (plain_number reply)
 plain_result (Err fault) = Err fault
+
+-- the result of a call that lends its reply, with the plain value of the reply
+abbrev pub lent_result : Result Reply CallFault → Result PlainReply CallFault
+lent_result (Ok reply) = Ok (plain_reply reply)
+lent_result (Err fault) = Err fault
 
 -- the kind of reply to a request: data for a read, and a number for any other
 abbrev pub wanted_by : PlainRequest → Wanted
@@ -91,46 +98,23 @@ pub record IsReplyAwaited (wanted : Wanted) (h : ReplyHeld) (bytes : List ℕ) :
   pub begun : ReplyParsesAs (Some wanted) bytes (Ok None) bytes
   pub room : length h.kept < READER_LIMIT
 
--- What a reader returns of the bytes that it holds, and its state then. A fault stays, whatever
--- bytes follow.
-abbrev pub IsFront : Wanted → List ℕ → Result (Option TapeReply) CallFault → ReplyHeld → Type 0
-IsFront wanted bytes (Ok None) new = IsReplyAwaited wanted new bytes
-IsFront wanted bytes (Ok (Some answer)) new =
-    (reply : PlainReply) × (rest : List ℕ) × Answers answer reply × ReplyParsesAs (Some wanted) bytes (Ok (Some reply)) rest × ReplyUnread new None rest
-IsFront wanted bytes (Err Botched) new =
-    (fault : WireFault) × ((more : List ℕ) → ReplyParsesAs (Some wanted) (bytes ++ more) (Err fault) (bytes ++ more))
-IsFront wanted bytes (Err OutOfMemory) new =
-    (reply : PlainReply) × (rest : List ℕ) × ReplyParsesAs (Some wanted) bytes (Ok (Some reply)) rest
-IsFront wanted bytes (Err ConnectionEnded) new = ⊥
+-- the bytes are more than a beginning of a reply: they begin with a whole one, or cannot become one
+abbrev pub IsEnough : Wanted → List ℕ → Type 0
+IsEnough wanted bytes = ¬ ReplyParsesAs (Some wanted) bytes (Ok None) bytes
 
--- The result says what the bytes are, for a reader that awaits a reply of the kind `wanted`. Ok
--- None: the beginning of a reply; the reader `new` awaits the rest. Ok (Some answer): exactly this
--- reply. Botched: neither. OutOfMemory: they begin with a reply, but an allocation failed.
-abbrev pub IsTaken : Wanted → List ℕ → Result (Option TapeReply) CallFault → ReplyHeld → Type 0
-IsTaken wanted bytes (Ok None) new = IsReplyAwaited wanted new bytes
-IsTaken wanted bytes (Ok (Some answer)) new = (reply : PlainReply) × Answers answer reply × SpellsReply bytes reply wanted
-IsTaken wanted bytes (Err Botched) new = IsNoReply wanted bytes
-IsTaken wanted bytes (Err OutOfMemory) new =
-    (reply : PlainReply) × (rest : List ℕ) × ReplyParsesAs (Some wanted) bytes (Ok (Some reply)) rest
-IsTaken wanted bytes (Err ConnectionEnded) new = ⊥
+-- Bytes were received once from a peer, which was `p` before and is `p'` after. The reader lent all
+-- its room, in which `room` is left. The first `count` bytes of it came, and are unread in the
+-- reader, which was `old` before and is `new` after.
+pub record IsReceivedFrom {P : Type 0} (tells : P → List Passed → Type 0) (p p' : P) (old new : ReplyHeld) (count : ℕ) : Type 0 where
+  pub room : List ℕ
+  pub within : count ≤ length room
+  pub logs : Logs tells p p' (given room (take count room))
+  pub whole : (wanted : Option Wanted) (bytes : List ℕ) → ReplyUnread old wanted bytes → length room + reply_taken_of wanted bytes ≡ READER_LIMIT
+  pub unread : (wanted : Option Wanted) (bytes : List ℕ) → ReplyUnread old wanted bytes → ReplyUnread new wanted (bytes ++ take count room)
 
--- the data of a reply are the last of the first `len` bytes of a buffer
-abbrev pub HoldsData : List ℕ → ℕ → PlainReply → Type 0
-HoldsData buffer len (Data bytes) =
-    (length bytes ≤ len) × (len ≤ READER_LIMIT) × (drop (len - length bytes) (take len buffer) ≡ bytes)
-HoldsData buffer len (Done number) = Unit {0}
-HoldsData buffer len (Error number text) = Unit {0}
-
--- A reply of the kind `wanted` was awaited over a peer. The result is the reply, and how many bytes
--- of `buffer` were filled last, the data at their end; or why no reply came.
-abbrev pub IsHeld : {P : Type 0} → (P → List Passed → Type 0) → Wanted → List ℕ → P → P → Result (TapeReply × ℕ) CallFault → Type 0
-IsHeld tells wanted buffer p p' (Ok got) =
-    (reply : PlainReply) × Answers got.0 reply × HoldsData buffer got.1 reply × IsReplyHeard tells wanted (Ok reply) p p'
-IsHeld tells wanted buffer p p' (Err fault) = IsReplyHeard tells wanted (Err fault) p p'
-
--- `request` was sent over a peer. The result is the reply, and how many bytes of `buffer` were
--- filled last, the data at their end; or why no reply came.
-abbrev pub IsExchanged : {P : Type 0} → (P → List Passed → Type 0) → PlainRequest → List ℕ → P → P → Result (TapeReply × ℕ) CallFault → Type 0
-IsExchanged tells request buffer p p' (Ok got) =
-    (reply : PlainReply) × Answers got.0 reply × HoldsData buffer got.1 reply × IsCalled tells request (Ok reply) p p'
-IsExchanged tells request buffer p p' (Err fault) = IsCalled tells request (Err fault) p p'
+-- A reply of the kind `wanted` was awaited over a peer, and the reader `h` has the bytes that came.
+-- They are enough, or the result says why they are not.
+abbrev pub IsHeard : {P : Type 0} → (P → List Passed → Type 0) → Wanted → ReplyHeld → P → P → Result Unit CallFault → Type 0
+IsHeard tells wanted h p p' (Ok x) =
+    (bytes : List ℕ) × ReplyUnread h (Some wanted) bytes × IsEnough wanted bytes × Logs tells p p' (map Given bytes)
+IsHeard tells wanted h p p' (Err fault) = IsReplyHeard tells wanted (Err fault) p p'

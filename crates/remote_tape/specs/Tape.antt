@@ -10,7 +10,6 @@ use Rattle.rmt_wire.specs.Request.PlainRequest.{Open, Close, Write, Read, Op}
 use Rattle.refusals.specs.declared.request.TapeRequest.{TapeRequest}
 use Rattle.refusals.specs.declared.request.TapeRequest.TheVariants as named
 use Rattle.remote_tape.specs.Call.{IsCalled}
-use Rattle.remote_tape.specs.declared.fault.CallFault.{CallFault}
 use Rattle.remote_tape.specs.declared.fault.TapeCause.{TapeCause}
 use Rattle.remote_tape.specs.declared.fault.TapeCause.TheVariants.{Refused, NoReply}
 use Rattle.remote_tape.specs.declared.fault.TapeFault.{TapeFault}

@@ -1,15 +1,16 @@
 //! A tape drive at the far end of a connection.
-ghost use Rattle.std.specs.Prelude.{◌≡◌, ◌⊎◌, ◌<◌, ◌≤◌, ◌-◌, ℕ, List, ◌++◌, Some, box_value, drop, take};
+ghost use Rattle.std.specs.Prelude.{◌≡◌, ◌≤◌, ℕ, List, Some, IsTrue, IsFalse, map};
 ghost use Rattle.rmt_wire.specs.Lent.{plain_request, plain_wanted};
 ghost use Rattle.rmt_wire.specs.Number.{IsLine};
 ghost use Rattle.rmt_wire.specs.Reply as kinds;
 ghost use Rattle.rmt_wire.specs.Reply.Wanted.{Number};
 ghost use Rattle.rmt_wire.specs.Request as requests;
-ghost use Rattle.rmt_wire.specs.declared.limits.TheConstants.{NUMBER_LIMIT, READER_LIMIT, RECORD_LIMIT};
+ghost use Rattle.rmt_wire.specs.declared.limits.TheConstants.{NUMBER_LIMIT, RECORD_LIMIT};
 ghost use Rattle.rmt_wire.specs.declared.mtio.TheConstants.{MTREW, MTOFFL};
 ghost use Rattle.rmt_wire.specs.ReplyReader.{IsWithin, ReplyUnread};
 ghost use Rattle.refusals.specs.declared.request.TapeRequest.TheVariants as named;
-ghost use Rattle.remote_tape.specs.Call.{plain_result, wanted_by, IsReplyAwaited, IsFront, IsTaken, IsHeld, IsExchanged, IsCalled};
+ghost use Rattle.remote_tape.specs.Call.{lent_result, plain_result, wanted_by, Brings, IsReplyAwaited, IsEnough, IsReceivedFrom, IsHeard, IsCalled};
+ghost use Rattle.remote_tape.specs.declared.peer.Passed.TheVariants.{Given};
 ghost use Rattle.remote_tape.specs.Tape.{IsAsked, IsRecordRead, IsSpace};
 
 use crate::Peer;
@@ -17,11 +18,11 @@ use crate::fault::{CallFault, TapeCause, TapeFault};
 use crate::reply::{TapeReply, keep};
 use refusals::TapeRequest;
 use rmt_wire::mtio::{MTOFFL, MTREW};
-use rmt_wire::{READER_LIMIT, ReplyReader, Request, Wanted, push_request};
+use rmt_wire::{Reply, ReplyReader, Request, Wanted, push_request};
 use std::alloc::{AllocError, Global};
 
-/// Sends requests to a tape drive over a peer. It holds the buffers for a request, for received
-/// bytes, and for the reply.
+/// Sends requests to a tape drive over a peer. It holds a buffer for a request, and one for the
+/// reply, which is received straight into it.
 ///
 /// No request affects a later one: its promises hold after any earlier one, even a failed one, and
 /// with any peer. After a request that got no reply, the caller should send nothing more over that
@@ -31,21 +32,16 @@ pub struct RemoteTape {
     alloc: Global,
     reader: ReplyReader,
     text: Vec<u8>,
-    received: Box<[u8; READER_LIMIT]>,
 }
 
 impl RemoteTape {
-    /// Makes a `RemoteTape`. The call allocates `rmt_wire::READER_LIMIT` bytes twice, and fails only
-    /// if these allocations fail.
+    /// Makes a `RemoteTape`. The call allocates `rmt_wire::READER_LIMIT` bytes once, and fails only
+    /// if this allocation fails.
     pub fn new(alloc: Global) -> Result<RemoteTape, AllocError> {
-        let Ok(received) = Box::new(alloc, [0; READER_LIMIT]) else {
-            return Err(AllocError);
-        };
         Ok(RemoteTape {
             alloc,
             reader: ReplyReader::new(alloc)?,
             text: Vec::new(alloc),
-            received,
         })
     }
 
@@ -122,11 +118,13 @@ impl RemoteTape {
         ensures { IsRecordRead P.tells most peer.old peer.new result }
     {
         match self.exchange(peer, &Request::Read { count: most }) {
-            Ok((TapeReply::Done { number }, len)) => Ok(last_bytes(&*self.received, number, len)),
-            Ok((TapeReply::Error { number, .. }, _)) => Err(TapeFault {
+            Ok(Reply::Data { bytes }) => Ok(bytes),
+            Ok(Reply::Error { number, .. }) => Err(TapeFault {
                 request: TapeRequest::Read,
                 cause: TapeCause::Refused(number),
             }),
+            // No reply to a read is a number.
+            Ok(Reply::Done { .. }) => unreachable!(),
             Err(fault) => Err(TapeFault {
                 request: TapeRequest::Read,
                 cause: TapeCause::NoReply(fault),
@@ -167,8 +165,12 @@ impl RemoteTape {
         // allocation for the request or for a received reply failed.
         ensures { IsCalled P.tells (plain_request request.now) (plain_result result) peer.old peer.new }
     {
+        let alloc = self.alloc;
         match self.exchange(peer, request) {
-            Ok((reply, _)) => Ok(reply),
+            Ok(reply) => match keep(alloc, reply) {
+                Ok(answer) => Ok(answer),
+                Err(_) => Err(CallFault::OutOfMemory),
+            },
             Err(fault) => Err(fault),
         }
     }
@@ -195,17 +197,16 @@ impl RemoteTape {
         })
     }
 
-    /// Sends a request once over the open connection, and waits for the whole reply. Returns the
-    /// reply, and how many bytes of `received` were filled last: the data of a read are at the end
-    /// of these.
+    /// Sends a request once over the open connection, and waits for the whole reply. Lends the
+    /// reply from the reader.
     fn exchange<P: Peer>(
         &mut self,
         peer: &mut P,
         request: &Request<'_>,
-    ) -> Result<(TapeReply, usize), CallFault>
+    ) -> Result<Reply<'_>, CallFault>
         requires spelling { requests.HasSpelling (plain_request request.now) }
         requires within { IsWithin (wanted_by (plain_request request.now)) }
-        ensures { IsExchanged P.tells (plain_request request.now) (box_value self.new.received) peer.old peer.new result }
+        ensures { IsCalled P.tells (plain_request request.now) (lent_result result) peer.old peer.new }
     {
         self.text.clear();
         let Ok(()) = push_request(&mut self.text, request) else {
@@ -214,23 +215,11 @@ impl RemoteTape {
         if !peer.send(self.text.as_slice()) {
             return Err(CallFault::ConnectionEnded);
         }
-        hear(
-            self.alloc,
-            peer,
-            &mut self.reader,
-            &mut self.received,
-            wanted_of(request),
-        )
+        match hear(peer, &mut self.reader, wanted_of(request)) {
+            Ok(()) => whole_reply(&self.reader),
+            Err(fault) => Err(fault),
+        }
     }
-}
-
-/// Returns the last `number` of the first `len` bytes.
-fn last_bytes(received: &[u8; READER_LIMIT], number: u64, len: usize) -> &[u8]
-    requires number { number ≤ len }
-    requires len { len ≤ READER_LIMIT }
-    ensures { result.now ≡ drop (len - number) (take len received.now) }
-{
-    &received[len - number as usize..len]
 }
 
 /// Returns the kind of reply that a request gets: data for a read, and a number for any other.
@@ -243,96 +232,58 @@ fn wanted_of(request: &Request<'_>) -> Wanted
     }
 }
 
-/// Waits for a reply of this kind, which begins with the next byte that the peer sends. Bytes are
-/// received into `received`. Returns the reply, and how many bytes of `received` were filled last:
-/// the data of a read are at the end of these.
+/// Receives bytes from the peer once, straight into the reader. Returns how many came.
+fn receive<P: Peer>(peer: &mut P, reader: &mut ReplyReader) -> usize
+    ensures { IsReceivedFrom P.tells peer.old peer.new reader.old reader.new result }
+{
+    reader.fill(&mut |into: &mut [u8]| peer.receive(into))
+}
+
+/// Receives bytes into the reader until they are a whole reply of this kind, or cannot become one.
+/// The reply begins with the next byte that the peer sends.
 ///
-/// Fails with `ConnectionEnded` if the connection ends before the reply is whole, with `Botched` if
-/// the bytes are no such reply or more bytes follow it, and with `OutOfMemory` if an allocation
-/// fails.
-fn hear<P: Peer>(
-    alloc: Global,
-    peer: &mut P,
-    reader: &mut ReplyReader,
-    received: &mut [u8; READER_LIMIT],
-    wanted: Wanted,
-) -> Result<(TapeReply, usize), CallFault>
+/// Fails with `ConnectionEnded` if the connection ends before that.
+fn hear<P: Peer>(peer: &mut P, reader: &mut ReplyReader, wanted: Wanted) -> Result<(), CallFault>
     requires { IsWithin (plain_wanted wanted) }
-    ensures { IsHeld P.tells (plain_wanted wanted) received.new peer.old peer.new result }
+    ensures { IsHeard P.tells (plain_wanted wanted) reader.new peer.old peer.new result }
 {
     reader.clear();
     reader.expect(wanted);
-    let mut len = 0;
     for turn in 0..u64::MAX {
-        let at = room_at(len);
-        let count = peer.receive(&mut received[at..]);
-        if count == 0 {
+        if receive(peer, reader) == 0 {
             return Err(CallFault::ConnectionEnded);
         }
-        len = at + count;
-        match take(alloc, reader, &received[at..len]) {
-            Ok(None) => {}
-            Ok(Some(answer)) => return Ok((answer, len)),
-            Err(fault) => return Err(fault),
+        if !is_waiting(reader) {
+            return Ok(());
         }
     }
     Err(CallFault::Botched)
 }
 
-/// Returns where to receive more bytes, after `len` bytes were received: behind these, or from the
-/// beginning if they fill the buffer. Only an error with a long text can fill it.
-fn room_at(len: usize) -> usize
-    requires { len ≤ READER_LIMIT }
-    ensures within { result < READER_LIMIT }
-    ensures at { (result ≡ len) ⊎ ((result ≡ 0) × (len ≡ READER_LIMIT)) }
+/// Returns whether the reader's bytes are only a beginning of the reply that it waits for.
+fn is_waiting(reader: &ReplyReader) -> bool
+    ensures more { IsTrue result → (wanted : kinds.Wanted) (bytes : List ℕ) → ReplyUnread reader.now (Some wanted) bytes →
+        IsReplyAwaited wanted reader.now bytes }
+    ensures enough { IsFalse result → (wanted : kinds.Wanted) (bytes : List ℕ) → ReplyUnread reader.now (Some wanted) bytes → IsEnough wanted bytes }
 {
-    if len == READER_LIMIT { 0 } else { len }
-}
-
-/// Feeds received bytes to the reader. Returns the reply once it is whole, and None if all bytes so
-/// far are only its beginning.
-///
-/// Fails with `Botched` if the bytes are no reply or more bytes follow it, and with `OutOfMemory`
-/// if an allocation fails.
-fn take(
-    alloc: Global,
-    reader: &mut ReplyReader,
-    piece: &[u8],
-) -> Result<Option<TapeReply>, CallFault>
-    requires { (wanted : kinds.Wanted) × (bytes : List ℕ) × IsReplyAwaited wanted reader.old bytes }
-    ensures { (wanted : kinds.Wanted) (bytes : List ℕ) → IsReplyAwaited wanted reader.old bytes →
-        IsTaken wanted (bytes ++ piece.now) result reader.new }
-{
-    let mut at = 0;
-    while at < piece.len() {
-        at += reader.push(&piece[at..]);
-        match first_reply(alloc, reader) {
-            Ok(None) => {}
-            Ok(Some(answer)) => {
-                if at < piece.len() || !reader.is_empty() {
-                    return Err(CallFault::Botched);
-                }
-                return Ok(Some(answer));
-            }
-            Err(fault) => return Err(fault),
-        }
+    match reader.peek() {
+        Ok(None) => true,
+        Ok(Some(_)) => false,
+        Err(_) => false,
     }
-    Ok(None)
 }
 
-/// Keeps the first reply in the reader's bytes, or returns None if it is not complete yet. Fails with
-/// `Botched` if the bytes are no reply, and with `OutOfMemory` if the allocation for the text of an
-/// error fails.
-fn first_reply(alloc: Global, reader: &mut ReplyReader) -> Result<Option<TapeReply>, CallFault>
-    ensures { (wanted : kinds.Wanted) (bytes : List ℕ) → ReplyUnread reader.old (Some wanted) bytes →
-        IsFront wanted bytes result reader.new }
+/// Lends the reply from a reader that no longer waits for it. Fails with `Botched` if its bytes are
+/// no reply, or if more bytes follow it.
+fn whole_reply(reader: &ReplyReader) -> Result<Reply<'_>, CallFault>
+    ensures { (wanted : kinds.Wanted) (bytes : List ℕ) → ReplyUnread reader.now (Some wanted) bytes → IsEnough wanted bytes →
+        Brings wanted (lent_result result) (map Given bytes) }
 {
-    match reader.next() {
-        Ok(None) => Ok(None),
-        Ok(Some(reply)) => match keep(alloc, reply) {
-            Ok(answer) => Ok(Some(answer)),
-            Err(_) => Err(CallFault::OutOfMemory),
-        },
+    match reader.peek() {
+        Ok(Some((reply, 0))) => Ok(reply),
+        Ok(Some((_, _))) => Err(CallFault::Botched),
+        // No reader that no longer waits returns this.
+        Ok(None) => Err(CallFault::Botched),
         Err(_) => Err(CallFault::Botched),
     }
 }

@@ -6,6 +6,7 @@ pub mod Align
 pub mod Requests
 pub mod Giving
 pub mod WriteLines
+pub mod Behind
 pub mod Dropped
 pub mod Given
 pub mod Nexts

@@ -1,9 +1,10 @@
 -- One call of a reader of replies.
-use Rattle.rmt_wire.proofs.Words.{Bool, Err, List, None, Ok, Option, Result, Some, [], ap, append_assoc, arith, drop, eqb, false, get_or, inl, inr, is_some, length, length-append, length-drop, min, refl, subst, suc, sym, take, true, ℕ, ⊎_elim, ◌++◌, ◌+◌, ◌-◌, ◌<◌, ◌∙◌, ◌∷◌, ◌≡◌, ◌≢◌, ◌≤◌, ◌⊎◌, take-add, nat_tests, drop-drop, drop_at, take_rest, line_feed, HasNoLineFeed, Parsed, number_front, PlainReply, Wanted, Error, ReplyParsesAs, wanted_after, text_len, kept_text, kept_behind, reply_front, kept_of, reply_held, IsWithin, kept_while, ReplyUnread, reply_taken_of, ReplyIsNext, ReplyStaysFaulty, plain_reply_front_result, reply_held_after, IsErrorText, error_bytes, ReplyContinues, ReplyLeavesRoom, plain_reply, lent_reply, plain_wanted, plain_wanted_if_some, WireFault, TooMuchData, READER_LIMIT, Place, Reply}
+use Rattle.rmt_wire.proofs.Words.{Bool, Err, List, None, Ok, Option, Result, Some, [], ap, append-nil, append_assoc, arith, drop, eqb, false, get_or, inl, inr, is_some, length, length-append, length-drop, min, refl, subst, suc, sym, take, true, ℕ, ⊎_elim, ◌++◌, ◌+◌, ◌-◌, ◌<◌, ◌∙◌, ◌∷◌, ◌≡◌, ◌≢◌, ◌≤◌, ◌⊎◌, take-add, nat_tests, drop-drop, drop_at, take_rest, line_feed, HasNoLineFeed, Parsed, number_front, PlainReply, Wanted, Error, ReplyParsesAs, wanted_after, text_len, kept_text, kept_behind, reply_front, kept_of, reply_held, IsWithin, kept_while, ReplyUnread, reply_taken_of, ReplyIsNext, ReplyStaysFaulty, plain_reply_front_result, reply_held_after, IsErrorText, error_bytes, ReplyContinues, ReplyLeavesRoom, plain_reply, lent_reply, plain_wanted_if_some, WireFault, TooMuchData, READER_LIMIT, Place, Reply}
 use Rattle.rmt_wire.proofs.Align.{no_cons}
 use Rattle.rmt_wire.proofs.Grammars.{View, faulty_always, room_of}
 use Rattle.rmt_wire.proofs.Numbers.{pick, numbers, number_view, digits_spell, behind, behind_lines, length_line, end_feed}
 use Rattle.rmt_wire.proofs.Texts.{TextView, text_view, take_no_feed, take_twice, kept_open, kept_ended, kept_again}
+use Rattle.rmt_wire.proofs.Given.{at_front}
 use Rattle.rmt_wire.proofs.Nexts.{taken_out, at_end}
 use Rattle.rmt_wire.proofs.Replies.{reply_grammar, error_ended, error_open, kept_error, reply_view}
 use Rattle.rmt_wire.proofs.ReplyGiving.{gives}
@@ -198,31 +199,39 @@ all_given items start was len e within t = record { waits = refl; keeps = (at_en
 pub expected : (wanted : Wanted) (kept : List ℕ) → ReplyUnread (reply_held None kept) None [] → ReplyUnread (reply_held (Some wanted) kept) (Some wanted) []
 expected wanted kept u = record { waits = refl; keeps = u.keeps ∙ sym (kept_nothing (Some wanted)) }
 
-some_wanted : (o : Option declared.Wanted) (wanted : Option Wanted) → is_some o ≡ true → plain_wanted_if_some o ≡ wanted → (w : Wanted) × (wanted ≡ Some w)
-some_wanted None wanted t e = absurd (cc)
-some_wanted (Some o) wanted t e = (plain_wanted o, sym e)
-
--- what is kept once a piece was pushed, and the text let go that is too long
-pub push_kept : (o : Option declared.Wanted) (kept mid new all piece bytes : List ℕ) (wanted : Option Wanted) (start at discardable : ℕ) → is_some o ≡ true
-    → drop start mid ≡ kept ++ piece → start ≤ length mid → all ≡ mid
+-- what is kept once the text that is too long was let go
+pub cut_kept : (o : Option declared.Wanted) (all old new : List ℕ) (start at discardable : ℕ) → is_some o ≡ true → start ≤ length old → all ≡ old
     → kept_of (take (length all - start) (drop start all)) ≡ take at (take (length all - start) (drop start all)) ++ drop (at + discardable)
     (take (length all - start) (drop start all))
-    → at + discardable ≤ length (take (length all - start) (drop start all)) → new ≡ take (start + at) mid ++ drop (start + at + discardable) mid
-    → ReplyUnread (reply_held (plain_wanted_if_some o) kept) wanted bytes
-    → ReplyUnread (reply_held (plain_wanted_if_some o) (drop start new)) wanted (bytes ++ piece)
-push_kept o kept mid new all piece bytes wanted start at discardable some behind within same cut short is u =
-    let w = some_wanted o wanted some u.waits in
-    let view : take (length all - start) (drop start all) ≡ drop start mid = take_rest all start ∙ ap (drop start) same in
-    let cut' : kept_of (drop start mid) ≡ take at (drop start mid) ++ drop (at + discardable) (drop start mid) =
+    → at + discardable ≤ length (take (length all - start) (drop start all)) → new ≡ take (start + at) old ++ drop (start + at + discardable) old
+    → drop start new ≡ kept_while (plain_wanted_if_some o) (drop start old)
+cut_kept None all old new start at discardable some within same cut short is = absurd (cc)
+cut_kept (Some o) all old new start at discardable some within same cut short is =
+    let view : take (length all - start) (drop start all) ≡ drop start old = take_rest all start ∙ ap (drop start) same in
+    let cut' : kept_of (drop start old) ≡ take at (drop start old) ++ drop (at + discardable) (drop start old) =
     subst (λ l. kept_of l ≡ take at l ++ drop (at + discardable) l) view cut in
-    let size : at + discardable ≤ length (drop start mid) = subst (λ l. at + discardable ≤ length l) view short in
-    let new_kept : drop start new ≡ kept_of (kept ++ piece) =
-    ap (drop start) is ∙ taken_out mid start at discardable (omega (arith, length-drop start mid)) ∙ sym cut' ∙ ap kept_of behind in
-    let old_kept : kept ≡ kept_of bytes = u.keeps ∙ ap (λ o. kept_while o bytes) w.1 in
-    record {
-      waits = u.waits;
-      keeps = new_kept ∙ ap (λ l. kept_of (l ++ piece)) old_kept ∙ pushed bytes piece ∙ ap (λ o. kept_while o (bytes ++ piece)) (sym w.1);
-    }
+    let size : at + discardable ≤ length (drop start old) = subst (λ l. at + discardable ≤ length l) view short in
+    ap (drop start) is ∙ taken_out old start at discardable (omega (arith, length-drop start old)) ∙ sym cut'
+
+pushed_while : (wanted : Option Wanted) (bytes piece : List ℕ) → kept_while wanted (kept_while wanted bytes ++ piece) ≡ kept_while wanted (bytes ++ piece)
+pushed_while None bytes piece = refl
+pushed_while (Some wanted) bytes piece = pushed bytes piece
+
+-- what is unread once more came
+pub unread_more : (was : Option Wanted) (kept piece new bytes : List ℕ) (wanted : Option Wanted) → new ≡ kept_while was (kept ++ piece)
+    → ReplyUnread (reply_held was kept) wanted bytes → ReplyUnread (reply_held was new) wanted (bytes ++ piece)
+unread_more was kept piece new bytes wanted is u = record {
+  waits = u.waits;
+  keeps = is ∙ ap (λ w. kept_while w (kept ++ piece)) u.waits ∙ ap (λ l. kept_while wanted (l ++ piece)) u.keeps ∙ pushed_while wanted bytes piece;
+}
+
+-- how much room there is, where the bytes kept were moved to the front
+pub room_behind : (was : Option Wanted) (items moved bytes : List ℕ) (start len : ℕ) (wanted : Option Wanted) → moved ≡ take 0 items ++ drop (0 + start) items → len ≡ length moved
+    → length items ≤ READER_LIMIT → ReplyUnread (reply_held was (drop start items)) wanted bytes → READER_LIMIT - len + reply_taken_of wanted bytes ≡ READER_LIMIT
+room_behind was items moved bytes start len wanted m e limit u =
+    let all = ap (length {A = ℕ}) (at_front items moved [] moved start m (sym (append-nil moved))) in
+    let taken = ap (length {A = ℕ}) u.keeps in
+    omega (arith, all, taken, length-append {A = ℕ}, length-drop start items)
 
 -- a text that is too long is cut where it is, after the letter of an error
 pub cut_behind : (bytes : List ℕ) (p : ℕ × ℕ) (size kept : ℕ) → number_front Place.Line bytes ≡ Ok (Some p)

@@ -1,7 +1,7 @@
 -- In reading order. The grammar: Number, Request, Reply, RequestParts, ReplyParts. Reading and
 -- writing it: Counted, Lent, Parsed, RequestReader, RequestFill, RequestStream, ReplyFront,
--- ReplyReader, ReplyWriter. Inside the code: RequestFront, RequestKept. For programs: Print,
--- Argument.
+-- ReplyReader, ReplyFill, ReplyWriter. Inside the code: RequestFront, RequestKept. For programs:
+-- Print, Argument.
 pub mod Number
 pub mod Parsed
 pub mod Request
@@ -16,6 +16,7 @@ pub mod RequestStream
 pub mod ReplyParts
 pub mod ReplyFront
 pub mod ReplyReader
+pub mod ReplyFill
 pub mod ReplyWriter
 pub mod Counted
 pub mod Print

@@ -1,6 +1,6 @@
 -- The state of a reader of replies. A plain value is what contracts use for a value that the code
 -- has in memory. The kind of a reply is a number or data. Public contracts cite it.
-use Rattle.std.specs.Prelude.{◌≡◌, ◌≤◌, ℕ, ◌<◌, List, ◌∷◌, ◌++◌, length, drop, Option, Some, None, Result, Ok, Err}
+use Rattle.std.specs.Prelude.{◌≡◌, ◌≤◌, ℕ, ◌<◌, List, ◌∷◌, ◌++◌, length, drop, Option, Some, None, Result, Ok, Err, IfOk, IfSome}
 use Rattle.rmt_wire.specs.Number.{SpellsNumber, line_feed}
 use Rattle.rmt_wire.specs.declared.limits.TheConstants.{READER_LIMIT}
 use Rattle.rmt_wire.specs.declared.limits.TheConstants.{RECORD_LIMIT}
@@ -87,11 +87,18 @@ ReplyStaysFaulty old (Err fault) =
     → ReplyParsesAs wanted (bytes ++ more) (Err fault) (bytes ++ more)
 ReplyStaysFaulty old (Ok answer) = Unit {0}
 
--- the plain value of the result of a look for the first reply, without the reply's length
+-- the plain value of the result of a look for the first reply, without the number beside the reply
 abbrev pub plain_reply_front_result : Result (Option (Reply × ℕ)) WireFault → Result (Option PlainReply) WireFault
 plain_reply_front_result (Ok None) = Ok None
 plain_reply_front_result (Ok (Some found)) = Ok (Some (plain_reply found.0))
 plain_reply_front_result (Err fault) = Err fault
+
+-- a look at the first reply found what one call of `next` would return, and how many bytes would be
+-- unread after the reply
+pub record IsPeeked (h : ReplyHeld) (found : Result (Option (Reply × ℕ)) WireFault) : Type 0 where
+  pub after : ReplyHeld
+  pub next : ReplyIsNext h (plain_reply_front_result found) after
+  pub left : IfOk found (λ o. IfSome o (λ f. f.1 ≡ length after.kept))
 
 -- the state of the reader once the reply that was found, if any, was returned
 abbrev pub reply_held_after : Result (Option (Reply × ℕ)) WireFault → ReplyHeld → ReplyHeld

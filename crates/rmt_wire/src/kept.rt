@@ -1,9 +1,10 @@
 //! The buffer of a reader, which is reserved once. Pushed bytes are copied into it, and a stream is
-//! read straight into it. Its bytes are moved to the front only if room is needed, or before a
-//! read.
+//! read straight into it, as are bytes that are received. Its bytes are moved to the front only if
+//! room is needed, or before a read.
 ghost use Rattle.std.specs.Prelude.{◌≡◌, ◌+◌, ◌-◌, ◌<◌, ◌≤◌, ℕ, List, ◌++◌, length, take, drop, IfOk, OnOk, OnErr};
 ghost use Rattle.std.specs.Io.KnownBytes.{Consumes, Keeps, IsAtEnd};
 ghost use Rattle.rmt_wire.specs.Counted.{raised};
+ghost use Rattle.rmt_wire.specs.ReplyFill.{IsReceived};
 
 use crate::counted::Counted;
 use crate::limits::READER_LIMIT;
@@ -76,4 +77,24 @@ pub fn append_read<R: Read>(
             Err(error)
         }
     }
+}
+
+/// Calls `receive` once, with a room of `size` bytes after the bytes kept. Appends what it puts
+/// there. Returns how many bytes that are: what `receive` returns, but at most `size`.
+pub fn append_received<F: FnMut(&mut [u8]) -> usize>(
+    buffer: &mut BytesMut,
+    size: usize,
+    receive: &mut F,
+) -> usize
+    requires size { size ≤ buffer.old.spare }
+    requires called { F.IsAlwaysCallable receive.old }
+    ensures came { (received : IsReceived (F.step receive.old) receive.new size result)
+        × (buffer.new.items ≡ buffer.old.items ++ take result received.left.now) }
+    ensures room { length buffer.new.items + buffer.new.spare ≡ length buffer.old.items + buffer.old.spare }
+{
+    let len = buffer.len();
+    buffer.advance_mut(size);
+    let count = receive(&mut buffer.as_mut_slice()[len..]).min(size);
+    buffer.truncate(len + count);
+    count
 }

@@ -9,6 +9,7 @@ mod filled;
 mod helpers;
 mod listener;
 mod pushed;
+mod received;
 mod replies;
 mod reply_faults;
 mod streams;

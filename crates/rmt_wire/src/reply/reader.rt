@@ -6,10 +6,11 @@ ghost use Rattle.std.specs.Prelude.{◌≡◌, ℕ, ◌+◌, ◌-◌, ◌≤◌,
 ghost use Rattle.rmt_wire.specs.Reply as kinds;
 ghost use Rattle.rmt_wire.specs.Lent.{plain_wanted, plain_wanted_if_some};
 ghost use Rattle.rmt_wire.specs.ReplyReader as spec;
-ghost use Rattle.rmt_wire.specs.ReplyReader.{ReplyUnread, IsWithin, IsWithinIfSome, reply_taken_of, plain_reply_result, ReplyIsNext, ReplyStaysFaulty};
+ghost use Rattle.rmt_wire.specs.ReplyReader.{ReplyUnread, IsPeeked, IsWithin, IsWithinIfSome, kept_while, reply_taken_of, plain_reply_front_result, plain_reply_result, ReplyIsNext, ReplyStaysFaulty};
+ghost use Rattle.rmt_wire.specs.ReplyFill.{IsReplyFilled};
 
 use crate::fault::WireFault;
-use crate::kept::{append, remove};
+use crate::kept::{append, append_received, remove};
 use crate::limits::READER_LIMIT;
 use crate::reply::Reply;
 use crate::reply::front::{reply_front, surplus};
@@ -38,13 +39,28 @@ fn first_reply(
     }
 }
 
+/// Removes what is not kept of the bytes from index `start` on. If a reply is wanted, that is an
+/// error's text after its first 255 bytes.
+fn cut(buffer: &mut BytesMut, start: usize, wanted: Option<Wanted>)
+    requires { start ≤ length buffer.old.items }
+    ensures kept { drop start buffer.new.items ≡ kept_while (plain_wanted_if_some wanted) (drop start buffer.old.items) }
+    ensures start { start ≤ length buffer.new.items }
+    ensures fewer { length buffer.new.items ≤ length buffer.old.items }
+    ensures room { length buffer.new.items + buffer.new.spare ≡ length buffer.old.items + buffer.old.spare }
+{
+    if wanted.is_some() {
+        let (at, discardable) = surplus(&buffer.as_slice()[start..]);
+        remove(buffer, start + at, discardable);
+    }
+}
+
 /// Splits a stream of bytes into replies (rmt(8)), each of the kind that is waited for, whatever
 /// pieces the stream comes in. It reserves `READER_LIMIT` bytes once, and lends the data and the
 /// text of a reply from there.
 ///
 /// A client calls `expect` with what it waits for, sends its request, and pushes the bytes that
-/// come. It calls `next` until that returns the reply. Contracts see what the reader waits for, and
-/// the bytes that it keeps.
+/// come, or receives them by `fill`. It calls `next` until that returns the reply. Contracts see
+/// what the reader waits for, and the bytes that it keeps.
 #[derive(Drop)]
 pub struct ReplyReader {
     buffer: BytesMut,
@@ -158,11 +174,49 @@ impl ReplyReader {
         let count = piece.len().min(room);
         let start = append(&mut self.buffer, start, &piece[..count]);
         self.start = start;
-        if self.wanted.is_some() {
-            let (at, discardable) = surplus(&self.buffer.as_slice()[start..]);
-            remove(&mut self.buffer, start + at, discardable);
-        }
+        cut(&mut self.buffer, start, self.wanted);
         count
+    }
+
+    /// Calls `receive` once, with a buffer that is all the room of the reader. `receive` puts
+    /// bytes at the front of the buffer and returns how many. Returns how many came: what `receive`
+    /// returned, but at most the length of the buffer.
+    ///
+    /// The bytes that came are unread then, as if pushed, and they are not copied. The bytes that
+    /// were unread are moved to the front first.
+    pub fn fill<F: FnMut(&mut [u8]) -> usize>(&mut self, receive: &mut F) -> usize
+        requires { F.IsAlwaysCallable receive.old }
+        // `fill` calls `receive` once, with a buffer as long as `room` says. `fill` returns what
+        // `receive` returned, but at most the length of the buffer. So many bytes from the front of
+        // the buffer are unread afterwards. They follow the earlier unread bytes, as if they had
+        // been pushed.
+        ensures came { IsReplyFilled (F.step receive.old) receive.new self.old self.new result }
+        // The reader keeps at most 262,156 bytes.
+        ensures limit { length self.new.kept ≤ READER_LIMIT }
+    {
+        remove(&mut self.buffer, 0, self.start);
+        self.start = 0;
+        let most = READER_LIMIT - self.buffer.len();
+        let count = append_received(&mut self.buffer, most, receive);
+        cut(&mut self.buffer, 0, self.wanted);
+        count
+    }
+
+    /// Returns the reply that `next` would return, and how many unread bytes follow it. Returns
+    /// None or fails if `next` would. The reply stays in the reader, so it can be lent again.
+    pub fn peek(&self) -> Result<Option<(Reply<'_>, usize)>, WireFault>
+        // `peek` returns what `next` would return. Beside the reply, `peek` returns how many bytes
+        // would be unread after the call of `next`.
+        ensures next { IsPeeked self.now result }
+        // Once `peek` has returned a fault, every later call of `next` returns the same fault until
+        // `clear` is called. It does not matter which bytes are pushed in between.
+        ensures for_good { ReplyStaysFaulty self.now (plain_reply_front_result result) }
+    {
+        let unread = &self.buffer.as_slice()[self.start..];
+        match first_reply(unread, self.wanted)? {
+            None => Ok(None),
+            Some((reply, len)) => Ok(Some((reply, unread.len() - len))),
+        }
     }
 
     /// Returns the reply that the reader waits for. Lends the reply's data or the first 255 bytes
