@@ -1,8 +1,9 @@
-"""Measures `rdump ls --sums` over a reel of 256 MiB, beside `sha256sum` and `cat` of the same file in the same run.
+"""Measures `rdump ls --sums` and `rdump cat` over a reel of 256 MiB, beside `sha256sum` and `cat` of the same file in the same run.
 
     python3 -m bench.sums [PROGRAM] [--mib N]
 
-It prints ratios of the least of several times, each with the start of a process in it. `rdump ls` without sums stands beside.
+It prints ratios of the least of several times, each with the start of a process in it. `rdump ls` without sums stands beside. `rdump cat` and `cat`
+write to a file.
 """
 
 from __future__ import annotations
@@ -41,6 +42,12 @@ def reading(words: Words, source: Path) -> None:
     subprocess.run((*words, str(source)), stdin=subprocess.DEVNULL, stdout=subprocess.DEVNULL, check=True)
 
 
+def copying(words: Words, source: Path) -> None:
+    """Runs a program with a file as its last word, and writes what it prints to a file beside it."""
+    with source.with_name("back").open("wb") as back:
+        subprocess.run((*words, str(source)), stdin=subprocess.DEVNULL, stdout=back, check=True)
+
+
 def answer(*words: str) -> str:
     """What a program prints."""
     return subprocess.run(words, stdin=subprocess.DEVNULL, stdout=subprocess.PIPE, text=True, check=True).stdout
@@ -60,14 +67,16 @@ def measure(program: Path, folder: Path, size: int, total: int) -> bool:
     title = f"{round(total / MIB)} MiB compared, blocks of {size:,}"
     ratio_of_times(f"ls --sums, {title} / sha256sum", ours, theirs)
     ratio_of_times(f"ls --sums, {title} / ls", ours, plain)
-    print(f"{title:<44}{ours / theirs:>14.2f}{ours / cat:>10.2f}{ours / plain:>10.2f}", flush=True)
+    restored, copied = least_times(copying, [(it, reel) for it in ((str(program), "cat", "--length", str(blocks * size)), ("cat",))], REPEATS)
+    ratio_of_times(f"rdump cat, {round(total / MIB)} MiB, blocks of {size:,} / cat", restored, copied)
+    print(f"{title:<44}{ours / theirs:>14.2f}{ours / cat:>10.2f}{ours / plain:>10.2f}{restored / copied:>18.2f}", flush=True)
     reel.unlink()
     return True
 
 
 def main() -> int:
     """Measures the program, and ends with 0 where its answers were right."""
-    parser = argparse.ArgumentParser(description="Ratios of one run of rdump ls --sums over a long reel.")
+    parser = argparse.ArgumentParser(description="Ratios of one run of rdump ls --sums and rdump cat over a long reel.")
     parser.add_argument("program", nargs="?", type=Path, default=BUILT, help="the built rdump")
     parser.add_argument("--mib", type=int, default=256, help="how much is compared")
     asked = parser.parse_args()
@@ -78,7 +87,7 @@ def main() -> int:
         print("skipped: sha256sum is not on this machine")
         return 0
     print(f"Ratios of this run, of the least of {REPEATS} times each.\n")
-    print(f"{'time of rdump ls --sums':<44}{'to sha256sum':>14}{'to cat':>10}{'to ls':>10}")
+    print(f"{'time of rdump ls --sums':<44}{'to sha256sum':>14}{'to cat':>10}{'to ls':>10}{'rdump cat to cat':>18}")
     with tempfile.TemporaryDirectory(prefix="rdump-bench-") as folder:
         return 0 if all([measure(program, Path(folder), size, asked.mib * MIB) for size in BLOCKS]) else 1
 

@@ -20,6 +20,7 @@ from typing import IO, Iterator, NamedTuple
 
 from tests.lib.case import Case, random_seed
 from tests.lib.connections import Address, address_of, connected
+from tests.lib.dumping import as_nobody
 from tests.lib.listeners import Listener
 from tests.lib.listings import (
     ALL_WHOLE,
@@ -498,7 +499,7 @@ RELAYED = ("whole", "no mark", "a second mark", "a record after the mark", "empt
 
 
 def ls_with(folder: Path, terminal: int, *words: str) -> subprocess.CompletedProcess[bytes]:
-    """Lists with a terminal at standard error."""
+    """Lists with a terminal at standard error, as nobody, if root, who may read all files, runs the tests."""
     return subprocess.run(
         (built("rdump"), "ls", *words),
         cwd=folder,
@@ -507,6 +508,7 @@ def ls_with(folder: Path, terminal: int, *words: str) -> subprocess.CompletedPro
         stderr=terminal,
         timeout=LISTING_SECONDS,
         check=False,
+        **as_nobody(),
     )
 
 
@@ -525,24 +527,28 @@ class Drives(LsCase):
                 self.same(f"on a drive, {name}: a dump", got.lines, [*true.lines, "", "/usr level 0 date 7: no volume"], got)
 
     def test_progress(self) -> None:
-        """On a terminal a line shows which reel is read, and how much was: of files, and of a drive. It is cleared before anything else is told."""
+        """On a terminal a line shows which reel is read, and how much was: of files, and of a drive. It is cleared before anything else is told. What
+        is not there is told before the first reel is read."""
         good = {name: WHOLE for name in ("a", "b")}
         first, later = r"\rreel 1, 0 MiB, 0 KiB/s\x1b\[K", r"(\rreel [12], 0 MiB, \d+ [KM]iB/s\x1b\[K)*"
-        missing = "rdump: z: No such file or directory (os error 2)\r\n"
+        missing, denied = "rdump: z: No such file or directory (os error 2)\r\n", "rdump: shut: Permission denied (os error 13)\r\n"
         with self.rdump() as rdump, at_reel(rdump.folder, WHOLE) as address:
-            rdump.put(good)
+            rdump.put(good | {"shut": WHOLE})
+            rdump.folder.chmod(0o755)
+            (rdump.folder / "shut").chmod(0)
             drive = ("--to", address, "--device", DEVICE)
             rows = (
-                (("a", "b"), ALL_WHOLE, CLEAR, lines_of(good)),
-                (("a", "z", "b"), FAILED, CLEAR + missing, lines_of(good)),
-                (drive, ALL_WHOLE, CLEAR, wire_end(WHOLE).lines),
+                (("a", "b"), ALL_WHOLE, "", CLEAR, lines_of(good)),
+                (("a", "z", "b"), FAILED, missing, CLEAR, lines_of(good)),
+                (("a", "shut", "b"), FAILED, "", CLEAR + denied, lines_of(good)),
+                (drive, ALL_WHOLE, "", CLEAR, wire_end(WHOLE).lines),
             )
-            for words, status, cleared, lines in rows:
+            for words, status, before, cleared, lines in rows:
                 with Terminal() as terminal:
                     ran, shown = ls_with(rdump.folder, terminal.far, *words), terminal.shown()
                 self.same(f"{words}: the lines beside progress", (ran.stdout.decode().splitlines(), ran.returncode), (lines, status), shown)
                 more = later + re.escape(CLEAR) if status == FAILED else ""
-                wanted = first + later + re.escape(cleared) + (r"(" + more + r")?" if more else "")
+                wanted = re.escape(before) + first + later + re.escape(cleared) + (r"(" + more + r")?" if more else "")
                 self.holds(f"{words}: the progress", re.fullmatch(wanted, shown), shown, wanted)
 
     def test_no_session(self) -> None:

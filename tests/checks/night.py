@@ -28,13 +28,13 @@ from typing import Callable, NamedTuple
 
 from tests.lib import machines
 from tests.lib.case import Case, random_seed
+from tests.lib.cats import cat
 from tests.lib.checkpoints import small_disk
 from tests.lib.connections import NOWHERE, text_of, wait_for
 from tests.lib.dumping import DAY, IN_LITTLE_ROOM, PAYLOAD, label
 from tests.lib.ended import ABNORMAL, DONE, Ended
 from tests.lib.given import given
 from tests.lib.inside import is_inside, run_inside
-from tests.lib.joined import joined
 from tests.lib.places import TOP, built
 from tests.lib.played_servers import Said
 from tests.lib.processes import state
@@ -46,6 +46,8 @@ from tests.lib.waiting import GUARD_SECONDS, soon
 from tests.lib.wire import DEVICE
 
 SIGNALS = 60
+# The size of the blocks of etc/night.
+BLOCK = 262_144
 DATE_OF_A_LABEL = 951782400
 
 # Stand-ins for a dump.
@@ -949,12 +951,13 @@ class Nights(Case):
         wanted = {"monday": (tree / "monday").read_bytes(), "tuesday": (tree / "tuesday").read_bytes()}
         got = rdump("ls", *(str(SHELF / it) for it in shelf()), "--dumpdates", str(CLIENT / "dumpdates"))
         self.same("the shelf has each entry's volumes", got.status, DONE, got)
-        dates = dict(re.findall(r"^\S+ level (\d) date (\d+): volumes", got.output, re.M))
+        dumps = dict(re.findall(r"^\S+ level (\d) (date \d+: volumes 1 to \d+, ends at block \d+)$", got.output, re.M))
         back = Path("/mnt/back")
         back.mkdir()
         for level in "01":
-            payload = joined(*re.findall(rf"^(\S+): /usr level {level} date {dates[level]} ", got.output, re.M))
-            self.same(f"level {level} is joined", (payload.told, payload.status), ("", DONE))
+            date, *_, blocks = re.findall(r"\d+", dumps[level])
+            payload = cat(int(blocks) * BLOCK, "--fs", "/usr", "--level", level, "--date", date, *(str(SHELF / it) for it in shelf()))
+            self.same(f"level {level} comes back", (payload.told, payload.status), (b"", DONE))
             subprocess.run(("tar", "-x", "-C", str(back), "-f", "-"), input=payload.output, check=True, stderr=subprocess.DEVNULL)
         for name, data in wanted.items():
             file = back / "share/night" / name

@@ -23,10 +23,10 @@ from typing import Iterator, NamedTuple
 from tests.checks.night import NightCase, run
 from tests.lib import machines
 from tests.lib.case import random_seed
+from tests.lib.cats import cat
 from tests.lib.connections import NOWHERE, text_of
 from tests.lib.ended import DONE, Ended
 from tests.lib.given import given
-from tests.lib.joined import joined
 from tests.lib.places import TOP, built
 from tests.lib.servers import Server, serving
 from tests.lib.unattended import NIGHT, set_clock
@@ -124,9 +124,9 @@ class TreeCase(NightCase):
         """The payload of the last dump of a level that is entered, as its reel has it."""
         entries = run(self.folder, built("rdump"), "ls", str(self.server.bin), "--dumpdates", str(self.place / "dumpdates")).output
         date = re.findall(rf"(?m)^/usr level {level} date (\d+): volumes", entries)[0]
-        reel = re.findall(rf"(?m)^(.*): /usr level {level} date {date} .*: whole$", entries)[-1]
-        got = joined(reel)
-        self.same(f"level {level} is joined", (got.told, got.status), ("", DONE))
+        reel, blocks, size = re.findall(rf"(?m)^(.*): /usr level {level} date {date} .*, (\d+) blocks of (\d+) bytes, .*: whole$", entries)[-1]
+        got = cat(int(blocks) * int(size), reel)
+        self.same(f"level {level} comes back", (got.told, got.status), (b"", DONE))
         out = self.folder / f"back.{level}"
         out.write_bytes(got.output)
         return out

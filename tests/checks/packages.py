@@ -77,7 +77,6 @@ FILES = {
     """,
     "rdump": """\
         755 usr/bin/rsim
-        755 usr/lib/rdump/join-reels
         755 usr/lib/rdump/night
         755 usr/lib/rdump/unattended
         755 usr/sbin/rdump
@@ -96,7 +95,7 @@ FIELDS = {
         "Depends": r"libc6 \(>= [\d.]+\)(, libgcc-s1( \(>= [\d.]+\))?)?"
         + "".join(rf", systemd \| systemd-standalone-{it} \| systemd-{it}" for it in ("sysusers", "tmpfiles")),
     },
-    "rdump": {"Depends": r"libc6 \(>= [\d.]+\)(, libgcc-s1( \(>= [\d.]+\))?)?, python3"},
+    "rdump": {"Depends": r"libc6 \(>= [\d.]+\)(, libgcc-s1( \(>= [\d.]+\))?)?"},
 }
 FIELDS_OF_BOTH = {
     "Version": r"\d+\.\d+\.\d+~git\d{14}\.[0-9a-f]{8}(\+changed)?(\+unproved)?",

@@ -111,8 +111,9 @@ class Client(PlainTextCase):
                 self.same(f"{name}: the file", self.p.bytes_of("volume"), b"".join(BLOCKS))
 
     def test_names_of_reels(self) -> None:
-        """`rdump ls` prints them."""
+        """`rdump ls` prints them, and `rdump cat` tells of them."""
         self.tells("ls: no such file", self.ran("ls", UGLY), f"rdump: {PLAIN}: {MISSING}")
+        self.tells("cat: no such file", self.ran("cat", "--length", "0", UGLY), f"rdump: {PLAIN}: {MISSING}")
         for shown in (False, True):
             with tempfile.TemporaryDirectory(dir=self.p.folder) as folder:
                 Path(folder, UGLY).touch()

@@ -9,6 +9,7 @@ from __future__ import annotations
 
 import os
 import re
+import shlex
 import subprocess
 import tempfile
 import time
@@ -467,32 +468,30 @@ class WhatCame(ShelfCase):
 
 
 class ReelsOfOneDump(ShelfCase):
-    """How docs/OPERATING.md picks the reels of one dump from a shelf of many, and joins them."""
+    """How docs/OPERATING.md restores one dump from a shelf of many."""
 
     def test_reels(self) -> None:
         """Those of another name, level or date stay, and those that are not whole, whatever the bytes of the names are."""
         text = TOP.joinpath("docs/OPERATING.md").read_text()
-        (picks,) = re.findall(r"(?m)^rdump ls /srv/tape/shelf/\* \|.*> reels$", text)
-        (joins,) = re.findall(r"(?m)^xargs .* join-reels < reels", text)
+        (commands,) = re.findall(r"(?m)^date=.*\n(?:.*\n){2}rdump cat .* /srv/tape/shelf/\*(?= > tree.back)", text)
+        commands = commands.replace("mkdir back\n", "").replace("262144", str(BLOCK)).replace("/srv/tape/shelf", str(self.shelf))
         names = ("/usr", "/usr.*", "[/usr]", "ann:/usr", "a|/usr\\\\", "/", "//usr")
         dumps = [Dump(when, 5, level, FIRST, name) for name in names for level in (0, 1) for when in (OLD, NEW)]
-        wanted: dict[Dump, list[str]] = {}
         for number, dump in enumerate(dumps):
             day = self.shelf / folder_of(dump.when)
             day.mkdir(exist_ok=True)
             for volume, data in enumerate(dump.reels().values(), 1):
                 path = day / f"{number}: *[a] usr level 0 '\\\\ \"$x\" \u00e9 {volume} "
                 path.write_bytes(data)
-                wanted.setdefault(dump, []).append(str(path))
             (day / f"{number} cut").write_bytes(data[:-4])
         for dump in dumps:
+            named = commands.replace("--fs /usr --level 0", f"--fs {shlex.quote(dump.name)} --level {dump.level}")
             got = subprocess.run(
-                ("sh", "-c", f"{picks}\n{joins}".replace("/srv/tape/shelf", str(self.shelf))),
+                ("sh", "-c", named),
                 cwd=self.folder,
-                env={**os.environ, "PATH": f"{self.programs}:{TOP / 'etc'}:{os.environ['PATH']}", "dump": dump.number().rstrip()},
+                env={**os.environ, "PATH": f"{self.programs}:{os.environ['PATH']}", "dump": dump.number().rstrip()},
                 capture_output=True,
                 timeout=GUARD_SECONDS,
                 check=False,
             )
-            self.same(f"{dump.number()}: its reels", (self.folder / "reels").read_text().splitlines(), wanted[dump], got)
             self.same(f"{dump.number()}: its payload", (got.stdout, got.stderr, got.returncode), (dump.payload(), b"", DONE))

@@ -16,8 +16,8 @@ import tempfile
 from pathlib import Path
 from typing import Iterable, NamedTuple
 
-from tests.lib.machines import ENVIRONMENT, HOME, furnish, loopback, open_for_ssh
-from tests.lib.recipes import TUTORIAL, USED, Recipe, all_recipes, script_of
+from tests.lib.machines import ENVIRONMENT, furnish, loopback, open_for_ssh
+from tests.lib.recipes import USED, Recipe, all_recipes, script_of
 
 USER = "ann"
 USER_ENVIRONMENT = {"PATH": "/usr/local/bin:/usr/bin:/bin", "HOME": f"/home/{USER}", "USER": USER, "LANG": "C.UTF-8"}
@@ -44,9 +44,7 @@ def added_user() -> Who:
 
 def who_runs(titles: list[str]) -> Who:
     """Who runs these recipes."""
-    if titles == [USED]:
-        return added_user()
-    return Who(ENVIRONMENT | {"PATH": f"{ENVIRONMENT['PATH']}:{HOME}/etc"}) if titles == [TUTORIAL] else Who()
+    return added_user() if titles == [USED] else Who()
 
 
 def paste(recipe: Recipe, shell: str, who: Who) -> int:

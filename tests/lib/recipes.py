@@ -12,8 +12,6 @@ README = TOP / "README.md"
 
 # The recipe of the README, which a user runs who is not root.
 USED = "A server that is killed"
-# That of the tutorial, whose reader has etc/ in PATH.
-TUTORIAL = "A first day"
 
 # What no command prints stands before each command, with the number of its line.
 SIGN = "\1"

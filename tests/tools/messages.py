@@ -29,6 +29,7 @@ PROGRAMS = {
         "named_files",
         "printable",
         "rdump",
+        "rdump_cat",
         "rdump_commands",
         "rdump_dump",
         "rdump_fetch",

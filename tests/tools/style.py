@@ -1,5 +1,4 @@
-"""Looks at the style and the types of all Python here: runs `flake8` and `mypy` over tests/, bench/, packaging/deb.py and
-etc/join-reels.
+"""Looks at the style and the types of all Python here: runs `flake8` and `mypy` over tests/, bench/ and packaging/deb.py.
 
     python3 -m tests.tools.style
 
@@ -14,7 +13,7 @@ import sys
 
 from tests.lib.places import TOP
 
-CHECKED = ("tests", "bench", "packaging/deb.py", "etc/join-reels")
+CHECKED = ("tests", "bench", "packaging/deb.py")
 CHECKERS = (("flake8", *CHECKED), ("mypy", "--strict", *CHECKED))
 
 

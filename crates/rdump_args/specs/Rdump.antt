@@ -11,7 +11,8 @@ use Rattle.rmt_wire.specs.declared.argument.TheConstants.{ARGUMENT_LIMIT}
 use Rattle.rmt_wire.specs.declared.limits.TheConstants.{NUMBER_LIMIT}
 use Rattle.rmt_wire.specs.declared.mtio.TheConstants.{MTNOP}
 use Rattle.rdump_args.specs.declared.rdump_line.RdumpLine.{RdumpLine}
-use Rattle.rdump_args.specs.declared.rdump_line.RdumpLine.TheVariants.{Dump, Read, Fetch, List, Mt, Dates}
+use Rattle.rdump_args.specs.declared.rdump_line.RdumpLine.TheVariants.{Dump, Read, Fetch, Cat, List, Mt, Dates}
+use Rattle.rdump_args.specs.declared.cat_line.CatLine.{CatLine}
 use Rattle.rdump_args.specs.declared.dump_line.DumpLine.{DumpLine}
 use Rattle.rdump_args.specs.declared.read_line.ReadLine.{ReadLine}
 use Rattle.rdump_args.specs.declared.fetch_line.FetchLine.{FetchLine}
@@ -41,6 +42,11 @@ IsReadLine line = IsDevice line.device.now
 abbrev pub IsFetchLine : FetchLine → Type 0
 IsFetchLine line = IsDevice line.device.now
 
+-- there is a path, the level is one that a dump can have, and the numbers are at most `ARGUMENT_LIMIT`
+abbrev pub IsCatLine : CatLine → Type 0
+IsCatLine line =
+    (0 < length line.paths.items) × IfSome line.level (λ n. n ≤ 9) × IfSome line.date (λ n. n ≤ ARGUMENT_LIMIT) × (line.length ≤ ARGUMENT_LIMIT)
+
 -- the reels to list are those at the paths, at least one, or those of a drive
 abbrev pub IsListedReels : ListedReels → Type 0
 IsListedReels (Paths paths) = 0 < length paths.items
@@ -59,6 +65,7 @@ abbrev pub IsRdumpLine : RdumpLine → Type 0
 IsRdumpLine (Dump line) = IsDumpLine line × IsAddress line.to.now
 IsRdumpLine (Read line) = IsReadLine line × IsAddress line.to.now
 IsRdumpLine (Fetch line) = IsFetchLine line × IsAddress line.to.now
+IsRdumpLine (Cat line) = IsCatLine line
 IsRdumpLine (List line) = IsListLine line
 IsRdumpLine (Mt line) = IsMtLine line × IsAddress line.to.now
 IsRdumpLine (Dates file asked) = IsDatesAsked asked

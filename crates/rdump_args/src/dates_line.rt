@@ -54,7 +54,7 @@ fn asked<'a>(
 }
 
 /// Returns the level in this text, which must be exactly one digit.
-fn level_of(argument: &str) -> Option<u8>
+pub(crate) fn level_of(argument: &str) -> Option<u8>
     ensures value { IfSome result (λ n. (n ≤ 9) × (argument.now ≡ (48 + n) ∷ [])) }
     ensures given { (n : ℕ) → n ≤ 9 → argument.now ≡ (48 + n) ∷ [] → IsSome result }
 {

@@ -2,6 +2,7 @@
 #![tactic(auto)]
 
 mod argument;
+mod cat_line;
 mod dates_line;
 mod drive;
 mod dump_line;
@@ -13,6 +14,7 @@ mod rdump_line;
 mod read_line;
 mod timeout;
 
+pub use cat_line::CatLine;
 pub use dump_line::DumpLine;
 pub use fetch_line::FetchLine;
 pub use list_line::{ListLine, ListedReels};

@@ -6,6 +6,7 @@ ghost use Rattle.clap.specs.declared.error.kind.ErrorKind.TheVariants.{ValueVali
 ghost use Rattle.rdump_args.specs.Rdump.{IsRdumpLine};
 
 use crate::argument::{ArgumentSpec, args_of, check_given, push_command};
+use crate::cat_line::{CAT_ARGUMENTS, CatLine, cat_in};
 use crate::dates_line::{DATES_ARGUMENTS, dates_in};
 use crate::dump_line::{DUMP_ARGUMENTS, DumpLine, dump_in};
 use crate::fault::ArgumentFault;
@@ -27,6 +28,8 @@ pub enum RdumpLine<'a> {
     Read(ReadLine<'a>),
     /// Copy the reels of a stack into record files.
     Fetch(FetchLine<'a>),
+    /// Write the payload of a dump from its reels.
+    Cat(CatLine<'a>),
     /// List what reels contain.
     List(ListLine<'a>),
     /// Do one operation at a drive.
@@ -50,6 +53,7 @@ pub enum RdumpLine<'a> {
 ///   [--protect]`
 /// - `read --to ADDRESS --device D [--timeout SECONDS] --out FILE`
 /// - `fetch --to ADDRESS --device D [--timeout SECONDS] --into FOLDER [--sums FILE]`
+/// - `cat --length BYTES [--fs NAME] [--level LEVEL] [--date SECONDS] FILE|FOLDER...`
 /// - `ls FILE|FOLDER... [--dumpdates FILE [--blocks N]] [--sums FILE]`
 /// - `ls --to ADDRESS --device D [--timeout SECONDS] [--dumpdates FILE [--blocks N]] [--sums FILE]`
 /// - `mt --to ADDRESS --device D [--timeout SECONDS] OP COUNT`
@@ -70,6 +74,9 @@ pub fn rdump_args<'a, S: AsStr>(alloc: Global, arguments: &'a [S]) -> Result<Rdu
     // For `ls`, the arguments name either one or more paths, or a drive, but not both. If the
     // arguments contain a number of blocks, the arguments name a dumpdates file too. The number of
     // blocks is at most 2147483647.
+    //
+    // For `cat`, the arguments name one or more paths. The level, if given, is at most 9. The date,
+    // if given, and the length are at most 9223372036854775807.
     //
     // For `dump`, the level, the block size and the date, if given, are at most
     // 9223372036854775807.
@@ -144,6 +151,7 @@ fn whole_name(name: &str) -> &'static str {
         "dump" => "rdump dump",
         "read" => "rdump read",
         "fetch" => "rdump fetch",
+        "cat" => "rdump cat",
         "ls" => "rdump ls",
         "mt" => "rdump mt",
         "dates" => "rdump dates",
@@ -178,6 +186,7 @@ fn named_in<'a>(
         "dump" => dump_in(matches).map(RdumpLine::Dump),
         "read" => read_in(matches).map(RdumpLine::Read),
         "fetch" => fetch_in(matches).map(RdumpLine::Fetch),
+        "cat" => cat_in(alloc, matches).map(RdumpLine::Cat),
         "ls" => list_in(alloc, matches).map(RdumpLine::List),
         "mt" => mt_in(matches).map(RdumpLine::Mt),
         "dates" => dates_in(matches),
@@ -212,7 +221,7 @@ fn commands<'a>(alloc: Global) -> Result<Vec<Command<'a>>, AllocError> {
 }
 
 /// The names of the commands, and the text of each in the help.
-static COMMANDS: [(&str, &str); 6] = [
+static COMMANDS: [(&str, &str); 7] = [
     (
         "dump",
         "Dump a payload to a remote tape, and ask after each failure whether to retry",
@@ -224,6 +233,10 @@ static COMMANDS: [(&str, &str); 6] = [
     (
         "fetch",
         "Copy the reels of a remote tape into record files, and take each reel to the bin",
+    ),
+    (
+        "cat",
+        "Check the reels of a dump, and write its payload to standard output",
     ),
     (
         "ls",
@@ -245,6 +258,7 @@ fn arguments_of(name: &str) -> &'static [ArgumentSpec] {
         "dump" => &DUMP_ARGUMENTS,
         "read" => &READ_ARGUMENTS,
         "fetch" => &FETCH_ARGUMENTS,
+        "cat" => &CAT_ARGUMENTS,
         "ls" => &LIST_ARGUMENTS,
         "mt" => &MT_ARGUMENTS,
         "dates" => &DATES_ARGUMENTS,

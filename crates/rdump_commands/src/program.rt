@@ -9,6 +9,7 @@ use exit_status::ExitStatus;
 use file_medium::reserve_std_fds;
 use printable::PlainLines;
 use rdump_args::{RdumpLine, rdump_args};
+use rdump_cat::run_cat;
 use rdump_dump::run_dump;
 use rdump_list::run_ls;
 use rdump_read::{run_fetch, run_read};
@@ -19,7 +20,7 @@ use std::io::{self, Write};
 
 /// Runs the command that the arguments of the process name, and returns the exit status of `rdump`.
 /// `terminal` is standard error, if that is a terminal: it shows the progress of a dump, a read, a
-/// fetch or a list.
+/// fetch, a restore or a list.
 ///
 /// The status is `Success` if everything was done. It is `StartupError` if the command could not
 /// begin, because the arguments are wrong or a file cannot be read, for example. It is `Abnormal`
@@ -57,6 +58,7 @@ pub fn run_arguments<R: ClientSystem, S: AsStr, T: Write + Copy + Drop>(
         Ok(RdumpLine::Dump(line)) => run_dump(rt, &line, terminal),
         Ok(RdumpLine::Read(line)) => run_read(rt, line, terminal),
         Ok(RdumpLine::Fetch(line)) => run_fetch(rt, line, terminal),
+        Ok(RdumpLine::Cat(line)) => run_cat(rt, &line, terminal),
         Ok(RdumpLine::List(line)) => run_ls(rt, line, terminal),
         Ok(RdumpLine::Mt(line)) => run_mt(rt, line),
         Ok(RdumpLine::Dates { file, asked }) => run_dates(rt, file, asked),

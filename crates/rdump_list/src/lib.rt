@@ -7,6 +7,10 @@
 //! With a sums file, `run_ls` also compares the SHA-256 of each whole reel with the lines of its
 //! volume. `compare_reel` does so with a record file.
 //!
+//! `ReelPaths` finds the record files that the arguments name, for other commands too. They read
+//! these files through a `MarkLimit` and a `ShownMedium`, which shows what is read by a
+//! `ListProgress`.
+//!
 //! # Contracts
 //!
 //! The *verdict* on a reel is a text that says what the reel holds. A *sums file* has lines, and
@@ -31,6 +35,7 @@ mod order;
 mod printer;
 mod progress;
 mod reel;
+mod reel_paths;
 mod shown_medium;
 mod status;
 mod sums;
@@ -40,5 +45,9 @@ mod verdict;
 
 pub use compared_reel::compare_reel;
 pub use list_command::run_ls;
+pub use mark_limit::MarkLimit;
+pub use progress::ListProgress;
+pub use reel_paths::{ReelPath, ReelPaths, open_plain};
+pub use shown_medium::ShownMedium;
 pub use system::ListSystem;
 pub use verdict::{is_whole, push_verdict};

@@ -10,6 +10,7 @@ use crate::lister::Lister;
 use crate::order::sort;
 use crate::printer::Printer;
 use crate::reel::ListedReel;
+use crate::reel_paths::ReelPaths;
 use crate::status::status_of;
 use crate::sums::read_sums;
 use exit_status::ExitStatus;
@@ -132,11 +133,17 @@ fn read_paths<R: ListSystem, T: Write + Drop>(
     sums: Option<&Sums>,
     terminal: Option<T>,
 ) -> Result<(Vec<ListedReel>, bool), AllocError> {
-    let mut lister = Lister::new(rt, sums, terminal)?;
+    let mut found = ReelPaths::new(rt);
     for path in paths {
-        lister.read(path)?;
+        found.add(path)?;
     }
-    Ok(lister.into_reels())
+    let (files, are_found) = found.into_paths();
+    let mut lister = Lister::new(rt, sums, terminal)?;
+    for file in &files {
+        lister.read(file)?;
+    }
+    let (reels, are_read) = lister.into_reels();
+    Ok((reels, are_found && are_read))
 }
 
 /// Returns the first reel on the stack of a drive, and whether there was a session with the server

@@ -4,25 +4,21 @@
 use crate::ListSystem;
 use crate::compared_reel::compare_reel;
 use crate::fault::{print_fault, report};
-use crate::folder::names_in;
 use crate::mark_limit::MarkLimit;
 use crate::progress::ListProgress;
 use crate::reel::{ListedReel, Source};
+use crate::reel_paths::{ReelPath, open_plain};
 use crate::shown_medium::ShownMedium;
 use crate::undetermined::Undetermined;
 use file_medium::FileMedium;
 use reel_check::{ReelContents, check_reel};
 use std::alloc::AllocError;
-use std::fs::{self, File};
-use std::io::{self, ErrorKind, Write};
+use std::io::{self, Write};
 use sum_lines::{SumVerdict, Sums};
 use tape::{Medium, MediumFailed};
 
 /// How many bytes of a record are read at once.
 const ROOM: usize = 65536;
-
-/// The message for a path that is neither a plain file nor a folder.
-const NO_FILE: &str = "it is no plain file and no folder";
 
 /// What was found in a record file.
 #[derive(Drop)]
@@ -75,51 +71,13 @@ impl<'a, R: ListSystem, W: Write + Drop> Lister<'a, R, W> {
         (self.reels, !self.has_failed)
     }
 
-    /// Reads the record file at this path, or those in this folder. If one cannot be read, it
-    /// prints why and continues. Fails if an allocation fails.
-    pub(crate) fn read(&mut self, path: &str) -> Result<(), AllocError> {
-        match fs::metadata(self.rt, path) {
-            Ok(found) if found.is_dir() => self.read_folder(path),
-            Ok(found) if found.is_file() => self.read_file(path),
-            Ok(_) => {
-                self.print_fault(path, NO_FILE);
-                Ok(())
-            }
-            Err(error) => self.report(path, error),
-        }
-    }
-
-    /// Reads the plain files in a folder, in the order of their names' bytes. It skips folders,
-    /// links, and names that begin with a dot.
-    fn read_folder(&mut self, folder: &str) -> Result<(), AllocError> {
-        match names_in(self.rt, folder) {
-            Ok(names) => self.read_names(folder, &names),
-            Err(error) => self.report(folder, error),
-        }
-    }
-
-    /// Reads the plain files among these names in a folder.
-    fn read_names(&mut self, folder: &str, names: &[Vec<u8>]) -> Result<(), AllocError> {
-        let between = if folder.ends_with("/") { "" } else { "/" };
-        for name in names {
-            match str::from_utf8(name) {
-                Ok(name) => {
-                    let path = format!(in self.rt.alloc(); "{folder}{between}{name}")?;
-                    self.read_listed(path.as_str())?;
-                }
-                Err(_) => self.print_fault(folder, "a name in it is not UTF-8"),
-            }
-        }
-        Ok(())
-    }
-
-    /// Reads the file at this path of a folder's listing, if it is a plain file and still exists.
-    fn read_listed(&mut self, path: &str) -> Result<(), AllocError> {
-        match fs::symlink_metadata(self.rt, path) {
-            Ok(found) if found.is_file() => self.read_file(path),
-            Ok(_) => Ok(()),
-            Err(error) if error.kind() == ErrorKind::NotFound => Ok(()),
-            Err(error) => self.report(path, error),
+    /// Reads the record file at this path, if there is one. If it cannot be read, it prints why and
+    /// continues. Fails if an allocation fails.
+    pub(crate) fn read(&mut self, path: &ReelPath) -> Result<(), AllocError> {
+        match path.is_there(self.rt) {
+            Ok(true) => self.read_file(path.path.as_str()),
+            Ok(false) => Ok(()),
+            Err(error) => self.report(path.path.as_str(), error),
         }
     }
 
@@ -139,10 +97,7 @@ impl<'a, R: ListSystem, W: Write + Drop> Lister<'a, R, W> {
     /// Returns None if the system failed while it was read. Fails if it cannot be opened or is no
     /// plain file.
     fn contents_of(&mut self, path: &str) -> io::Result<Option<ReelFound>> {
-        let file = File::open(self.rt, path)?;
-        if !file.metadata()?.is_file() {
-            return Err(io::Error::new(ErrorKind::InvalidInput, NO_FILE));
-        }
+        let file = open_plain(self.rt, path)?;
         let mut shown = ShownMedium {
             medium: MarkLimit::new(FileMedium::new(file)),
             progress: self.progress.take(),

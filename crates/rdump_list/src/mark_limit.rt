@@ -15,7 +15,7 @@ const MARK: [u8; LENGTH_BYTES as usize] = [0; LENGTH_BYTES as usize];
 /// A record file with at most 1,000,000 marks in a row: after these, a read of a length returns no
 /// bytes, as at the end. Its contracts do not say which bytes it contains.
 #[derive(Drop)]
-pub(crate) struct MarkLimit {
+pub struct MarkLimit {
     medium: FileMedium,
     next: u64,
     marks: u32,
@@ -24,7 +24,7 @@ pub(crate) struct MarkLimit {
 
 impl MarkLimit {
     /// Makes the limited medium of this one, of which nothing was read.
-    pub(crate) fn new(medium: FileMedium) -> Self {
+    pub fn new(medium: FileMedium) -> Self {
         MarkLimit {
             medium,
             next: 0,
@@ -34,7 +34,7 @@ impl MarkLimit {
     }
 
     /// Whether there were too many marks in a row, so that the reads ended before the medium did.
-    pub(crate) fn is_over(&self) -> bool {
+    pub fn is_over(&self) -> bool {
         self.is_over
     }
 

@@ -10,7 +10,7 @@ const MIB: u64 = 1024 * 1024;
 /// A line on a terminal that shows which reel is read, and how much was read. It is updated at most
 /// ten times a second.
 #[derive(Drop)]
-pub(crate) struct ListProgress<'a, R: ListSystem, W: Write> {
+pub struct ListProgress<'a, R: ListSystem, W: Write> {
     line: LiveLine<'a, R, W>,
     reels: u64,
     bytes: u64,
@@ -18,7 +18,7 @@ pub(crate) struct ListProgress<'a, R: ListSystem, W: Write> {
 
 impl<'a, R: ListSystem, W: Write> ListProgress<'a, R, W> {
     /// Makes a line at this terminal, if there is one, with nothing shown yet.
-    pub(crate) fn at(clock: &'a R, terminal: Option<W>) -> Option<Self> {
+    pub fn at(clock: &'a R, terminal: Option<W>) -> Option<Self> {
         match terminal {
             Some(terminal) => Some(ListProgress {
                 line: LiveLine::new(clock, terminal),
@@ -30,7 +30,7 @@ impl<'a, R: ListSystem, W: Write> ListProgress<'a, R, W> {
     }
 
     /// Begins the next reel.
-    pub(crate) fn begin_reel(&mut self) {
+    pub fn begin_reel(&mut self) {
         self.reels = self.reels.saturating_add(1);
     }
 
@@ -47,7 +47,7 @@ impl<'a, R: ListSystem, W: Write> ListProgress<'a, R, W> {
     }
 
     /// Clears the line.
-    pub(crate) fn clear(&mut self) {
+    pub fn clear(&mut self) {
         self.line.clear();
     }
 }

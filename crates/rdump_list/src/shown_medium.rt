@@ -10,7 +10,7 @@ use tape::{Medium, MediumFailed};
 /// A medium whose reads are shown on a terminal, if there is one. It has the contracts of the
 /// medium, and contracts see only the medium.
 #[derive(Drop)]
-pub(crate) struct ShownMedium<'a, M, R: ListSystem, W: Write + Drop> {
+pub struct ShownMedium<'a, M, R: ListSystem, W: Write + Drop> {
     /// The medium that is read.
     pub medium: M,
     /// What shows the reads.

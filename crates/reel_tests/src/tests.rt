@@ -2,5 +2,6 @@
 
 mod of_drives;
 mod of_reel_files;
+mod of_restore;
 mod of_tape;
 mod of_volume_sum;

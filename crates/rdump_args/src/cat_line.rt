@@ -1,0 +1,144 @@
+//! The arguments of `rdump cat`.
+ghost use Rattle.std.specs.Prelude.{◌≤◌, ◌<◌, IfOk, IfSome, length};
+ghost use Rattle.rdump_args.specs.Rdump.{IsCatLine};
+ghost use Rattle.rmt_wire.specs.declared.argument.TheConstants.{ARGUMENT_LIMIT};
+
+use crate::argument::{ArgumentSpec, Form, value_in};
+use crate::dates_line::level_of;
+use crate::fault::ArgumentFault;
+use clap::ArgMatches;
+use rmt_wire::argument::number_of;
+use std::alloc::Global;
+
+/// The parsed arguments of `rdump cat`.
+#[derive(Debug, Drop)]
+pub struct CatLine<'a> {
+    /// The record files, and folders of record files. There is at least one path.
+    pub paths: Vec<&'a str>,
+    /// The name of the dumped file system, or None for any.
+    pub name: Option<&'a str>,
+    /// The level of the dump, 0 to 9, or None for any.
+    pub level: Option<u8>,
+    /// The date of the dump in seconds since the beginning of 1970 (UTC), or None for any.
+    pub date: Option<u64>,
+    /// The length of the payload in bytes.
+    pub length: u64,
+}
+
+/// The message if no reel is named.
+const NO_REEL: &str = "a FILE or a FOLDER is required";
+
+/// The message for a level that no dump can have.
+const BAD_LEVEL: &str = "invalid value for '--level <LEVEL>': a level is one digit, 0 to 9";
+
+/// The message for a date that is not a number.
+const BAD_DATE: &str =
+    "invalid value for '--date <SECONDS>': a date is 0 to 253402300799, in digits";
+
+/// The message for a length that is not a number.
+const BAD_LENGTH: &str =
+    "invalid value for '--length <BYTES>': the length is 0 to 9223372036854775807, in digits";
+
+/// Returns the command line of `rdump cat` in clap's matches. It allocates for the paths. Fails if
+/// that allocation fails or a value is not valid.
+pub(crate) fn cat_in<'a>(
+    alloc: Global,
+    matches: &ArgMatches<'a>,
+) -> Result<CatLine<'a>, ArgumentFault>
+    ensures { IfOk result IsCatLine }
+{
+    let level = level_in(matches.get_str("level"))?;
+    let date = date_in(matches.get_str("date"))?;
+    let Some(length) = number_of(value_in(matches, "length")) else {
+        return Err(ArgumentFault::Value(BAD_LENGTH));
+    };
+    let paths = match matches.get_strs("path") {
+        Some(paths) => paths_of(alloc, paths)?,
+        None => return Err(ArgumentFault::Missing(NO_REEL)),
+    };
+    Ok(CatLine {
+        paths,
+        name: matches.get_str("fs"),
+        level,
+        date,
+        length,
+    })
+}
+
+/// Returns these paths. Fails if there is none, or if an allocation fails.
+fn paths_of<'a>(alloc: Global, paths: &[&'a str]) -> Result<Vec<&'a str>, ArgumentFault>
+    ensures { IfOk result (λ paths. 0 < length paths.items) }
+{
+    if paths.is_empty() {
+        return Err(ArgumentFault::Missing(NO_REEL));
+    }
+    match Vec::from_slice(alloc, paths) {
+        Ok(paths) => Ok(paths),
+        Err(_) => Err(ArgumentFault::OutOfMemory),
+    }
+}
+
+/// Returns the level in a text, if there is a text. Fails if it is no level.
+fn level_in(text: Option<&str>) -> Result<Option<u8>, ArgumentFault>
+    ensures { IfOk result (λ level. IfSome level (λ n. n ≤ 9)) }
+{
+    let Some(text) = text else {
+        return Ok(None);
+    };
+    match level_of(text) {
+        Some(level) => Ok(Some(level)),
+        None => Err(ArgumentFault::Value(BAD_LEVEL)),
+    }
+}
+
+/// Returns the date in a text, if there is a text. Fails if it is no number.
+fn date_in(text: Option<&str>) -> Result<Option<u64>, ArgumentFault>
+    ensures { IfOk result (λ date. IfSome date (λ n. n ≤ ARGUMENT_LIMIT)) }
+{
+    let Some(text) = text else {
+        return Ok(None);
+    };
+    match number_of(text) {
+        Some(date) => Ok(Some(date)),
+        None => Err(ArgumentFault::Value(BAD_DATE)),
+    }
+}
+
+/// The arguments of `rdump cat`.
+pub(crate) static CAT_ARGUMENTS: [ArgumentSpec; 5] = [
+    ArgumentSpec {
+        name: "path",
+        value: "FILE|FOLDER",
+        help: "A record file, or a folder of record files",
+        form: Form::Many,
+        missing: "",
+    },
+    ArgumentSpec {
+        name: "length",
+        value: "BYTES",
+        help: "The length of the payload",
+        form: Form::Required,
+        missing: "--length is required",
+    },
+    ArgumentSpec {
+        name: "fs",
+        value: "NAME",
+        help: "The name of the dumped file system",
+        form: Form::Optional,
+        missing: "",
+    },
+    ArgumentSpec {
+        name: "level",
+        value: "LEVEL",
+        help: "The level of the dump, 0 to 9",
+        form: Form::Optional,
+        missing: "",
+    },
+    ArgumentSpec {
+        name: "date",
+        value: "SECONDS",
+        help: "The date of the dump in seconds since 1970",
+        form: Form::Optional,
+        missing: "",
+    },
+];

@@ -1,0 +1,11 @@
+use Rattle.std.proofs.Common.{◌≡◌, ◌<◌, refl, length, ◌-◌, arith, sym}
+use Rattle.std.specs.Prelude.{Contains}
+use Rattle.restore.proofs.chain.Chain.repeated.Goals as goal
+
+pub returns-then-is_same_dump : goal.returns-then-is_same_dump
+returns-then-is_same_dump c =
+    let volumes = c.args.self.now.volumes.items in
+    let item = c.in_ok-last.ensures.item in
+    let some : 0 < length c.deref.result.now = item.3.0 in
+    let among : Contains c.deref.result.now c.in_ok-last.last.now = (length c.deref.result.now - 1, omega arith, sym item.1) in
+    (c.in_ok-last.last.now, rw c.deref.ensures.value at among, refl)

@@ -1,0 +1,27 @@
+//! A law of what is restored. It is the contract of a function that does nothing.
+ghost use Rattle.std.specs.Prelude.{◌≡◌, ◌≤◌, ℕ, List, length, take};
+ghost use Rattle.std.specs.List.{concat};
+ghost use Rattle.dump_run.specs.Counts.{Covers};
+ghost use Rattle.dump_run.specs.Run.{PlainRun, IsRun};
+ghost use Rattle.dump_run.specs.declared.count.VolumeCount.{VolumeCount};
+ghost use Rattle.restore.specs.Dumped.{AreThere, IsPayloadOf, id_of_run};
+ghost use Rattle.restore.specs.Restored.{Fits, IsRestored, PlainWanted};
+
+use reel_check::one_holding;
+
+/// What was dumped comes back: if a shelf has the record file of each counted volume of a dump,
+/// nothing but the dump's payload is restored from it.
+///
+/// It does nothing: its contract is a law of the definitions.
+pub fn what_was_dumped_comes_back()
+    // Suppose that the counts of a run cover all its blocks in order, and that for each count a reel
+    // of the shelf holds exactly the counted volume's record file. Suppose also that the run's dump
+    // is one that is wanted, and that the wanted length is at most that of the payload. Then
+    // whatever `restore` can restore from the shelf is the beginning of the payload that has this
+    // length. This holds whatever other reels the shelf has, and in any order of the reels.
+    ensures { (run : PlainRun) (payload : List (List ℕ)) (counts : List VolumeCount) (reels : List (List ℕ)) (wanted : PlainWanted) (bytes : List ℕ) →
+        IsRun run → IsPayloadOf run payload → Covers run counts → AreThere reels run payload counts → Fits wanted (id_of_run run) →
+        wanted.length ≤ length (concat payload) → IsRestored reels wanted bytes → bytes ≡ take wanted.length (concat payload) }
+{
+    one_holding();
+}

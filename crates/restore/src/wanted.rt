@@ -1,0 +1,52 @@
+//! The dump that is wanted.
+ghost use Rattle.std.specs.Prelude.{◌↔◌, IsTrue};
+ghost use Rattle.restore.specs.Restored.{Fits};
+ghost use Rattle.restore.specs.Volumes.{id_of};
+
+use dump_run::VolumeLabel;
+use std::marker::Model;
+
+/// The dump that is wanted, as far as it is given, and the length of its payload.
+#[derive(Debug, Drop)]
+pub struct Wanted<'a> {
+    /// The name of the file system, or None for any.
+    pub name: Option<&'a str>,
+    /// The level, or None for any.
+    pub level: Option<u8>,
+    /// The date of the dump in seconds since the beginning of 1970 (UTC), or None for any.
+    pub date: Option<u64>,
+    /// The length of the payload in bytes.
+    pub length: u64,
+}
+
+impl<'a> Model for Wanted<'a> {
+    ghost use Rattle.restore.specs.Restored.{PlainWanted};
+    ghost use Rattle.std.specs.Option.{option_copied};
+
+    ghost Value = { PlainWanted };
+
+    ghost view = { λ w. record { name = option_copied w.name; level = w.level; date = w.date; length = w.length } };
+}
+
+impl Wanted<'_> {
+    /// Whether a volume with this label is of a dump that is wanted: the label has the name, the
+    /// level and the date that are given.
+    pub fn fits(&self, label: &VolumeLabel) -> bool
+        // Returns true if and only if the label has the given name, level and date.
+        ensures { IsTrue result ↔ Fits self.now (id_of label.now) }
+    {
+        let is_named = match self.name {
+            Some(name) => label.name() == name,
+            None => true,
+        };
+        let is_of_level = match self.level {
+            Some(level) => label.level() == level,
+            None => true,
+        };
+        let is_dated = match self.date {
+            Some(date) => label.date() == date,
+            None => true,
+        };
+        is_named && is_of_level && is_dated
+    }
+}
