@@ -459,10 +459,12 @@ class Outputs(CatCase):
         """The command with the large payload: the first byte was read, and a pipe that holds a page takes no more for now."""
         self.lay(self.LARGE_REELS)
         words = (built("rdump"), "cat", "--length", str(len(self.LARGE)), "r3", "r2", "r1")
-        pipe = subprocess.PIPE
-        with guarded(subprocess.Popen(words, cwd=self.folder, stdin=subprocess.DEVNULL, stdout=pipe, stderr=pipe, bufsize=0)) as run:
-            fcntl.fcntl(given(run.stdout), fcntl.F_SETPIPE_SZ, 4096)
-            self.same("the first byte", given(run.stdout).read(1), self.LARGE[:1])
+        here, there = os.pipe()
+        fcntl.fcntl(here, fcntl.F_SETPIPE_SZ, 4096)
+        with guarded(subprocess.Popen(words, cwd=self.folder, stdin=subprocess.DEVNULL, stdout=there, stderr=subprocess.PIPE, bufsize=0)) as run:
+            os.close(there)
+            run.stdout = open(here, "rb", buffering=0)
+            self.same("the first byte", run.stdout.read(1), self.LARGE[:1])
             yield run
 
     def test_a_reader_that_has_enough(self) -> None:

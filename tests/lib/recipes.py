@@ -13,6 +13,8 @@ README = TOP / "README.md"
 # The recipe of the README, which a user runs who is not root.
 USED = "A server that is killed"
 
+# What makes a dump.
+DUMPS = re.compile(r"\b(?:rdump dump|night \d)")
 # What no command prints stands before each command, with the number of its line.
 SIGN = "\1"
 
@@ -163,10 +165,14 @@ def with_those_before(recipe: Recipe, recipes: dict[str, Recipe]) -> list[Recipe
 
 
 def script_of(recipes: list[Recipe], pause: str = "") -> str:
-    """What a shell is given: before each command its line is printed, after the sign, and each block ends with the pause."""
+    """What a shell is given: before each command its line is printed, after the sign, and each block ends with the pause. A dump has the date of a
+    second, so after a recipe that makes one a second passes."""
     parts: list[str] = []
-    for block in (it for recipe in recipes for it in recipe.blocks):
-        for it in block:
-            parts.append(f"set {'-e' if it.wanted is None else '+e'}\nprintf '\\{ord(SIGN):03o}%s\\n' {it.line}\n{it.text}\n")
-        parts.append(pause)
+    for recipe in recipes:
+        for block in recipe.blocks:
+            for it in block:
+                parts.append(f"set {'-e' if it.wanted is None else '+e'}\nprintf '\\{ord(SIGN):03o}%s\\n' {it.line}\n{it.text}\n")
+            parts.append(pause)
+        if recipe != recipes[-1] and any(DUMPS.search(it.text) for it in recipe.commands()):
+            parts.append("sleep 1\n")
     return "".join(parts) + "exit 0\n"
