@@ -241,7 +241,8 @@ def measure(title: str, load: Load, programs: Programs, floor: Floor, folder: Pa
         tell(f"read back from {title}, blocks of {load.block:,}", reads, size, wanted)
     for it in outs:
         it.unlink()
-    if load.reels.folder:
+    # Several reels have one name, and the bin takes one of them.
+    if load.reels.folder and load.reels.count == 1:
         fetches = in_turns([partial(load.fetched, programs, folder / "into")])
         tell(f"fetched from {title}, blocks of {load.block:,}", [*fetches, reads[1]], size, None)
 
