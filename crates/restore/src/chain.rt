@@ -45,8 +45,8 @@ pub(crate) fn chain_of<S: Shelf>(
 }
 
 impl Chain {
-    /// Takes a volume: the next one, or one that has the same bytes as the last one. Reads the reels
-    /// of these in pieces half as long as `room`.
+    /// Takes a volume: the next one, or one that has the same bytes as the last one. Reads the
+    /// reels of these in pieces half as long as `room`.
     fn take<S: Shelf>(
         &mut self,
         shelf: &mut S,

@@ -60,13 +60,13 @@ pub enum Refusal {
 pub enum RestoreFault {
     /// It was refused, and nothing was written.
     Refused(Refusal),
-    /// A reel could not be opened or read again, or it was changed after it was checked. The
-    /// beginning of the payload was written.
+    /// A reel could not be opened or read again, or it was changed after it was checked. A
+    /// beginning of the payload was written: nothing, a part, or all of it.
     Reel {
         /// The reel.
         reel: usize,
     },
-    /// The output failed. The beginning of the payload was written.
+    /// The output failed. A beginning of the payload was written: nothing, a part, or all of it.
     Output,
 }
 

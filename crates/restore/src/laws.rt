@@ -14,11 +14,13 @@ use reel_check::one_holding;
 ///
 /// It does nothing: its contract is a law of the definitions.
 pub fn what_was_dumped_comes_back()
-    // Suppose that the counts of a run cover all its blocks in order, and that for each count a reel
-    // of the shelf holds exactly the counted volume's record file. Suppose also that the run's dump
-    // is one that is wanted, and that the wanted length is at most that of the payload. Then
-    // whatever `restore` can restore from the shelf is the beginning of the payload that has this
-    // length. This holds whatever other reels the shelf has, and in any order of the reels.
+    // Suppose that a run is within its limits, and that a payload has all its blocks, each of the
+    // run's size. Suppose that the counts of the run cover all its blocks in order, and that for
+    // each count a reel of the shelf holds exactly the counted volume's record file, with a number
+    // and a first block that a label can have. Suppose also that the run's dump is one that is
+    // wanted, and that the wanted length is at most that of all blocks. Then whatever `restore` can
+    // restore from the shelf is the beginning of the joined blocks that has this length. This holds
+    // whatever other reels the shelf has, and in any order of the reels.
     ensures { (run : PlainRun) (payload : List (List ℕ)) (counts : List VolumeCount) (reels : List (List ℕ)) (wanted : PlainWanted) (bytes : List ℕ) →
         IsRun run → IsPayloadOf run payload → Covers run counts → AreThere reels run payload counts → Fits wanted (id_of_run run) →
         wanted.length ≤ length (concat payload) → IsRestored reels wanted bytes → bytes ≡ take wanted.length (concat payload) }

@@ -7,11 +7,11 @@
 //! # Contracts
 //!
 //! A *shelf* has reels, numbered from 0. Each reel is a record file on a medium, and can be opened
-//! again and again. A *whole volume* is a reel that has a label, blocks of one size, one mark, and
-//! nothing else. Blocks are numbered from 0 over all volumes of a dump. A dump's volumes have the
-//! numbers 1, 2, 3 and so on, and each label has the number of its volume's first block. The
-//! *payload* is the blocks of all volumes, joined, and cut at its length: the last block ends with
-//! bytes that do not belong to it.
+//! again and again. A *whole volume* is a reel that has a label, at most 2,147,483,647 blocks of
+//! one size, one mark, and nothing else. Blocks are numbered from 0 over all volumes of a dump. A
+//! dump's volumes have the numbers 1, 2, 3 and so on, and each label has the number of its volume's
+//! first block. The *payload* is the blocks of all volumes, joined, and cut at its length: the last
+//! block ends with bytes that do not belong to it.
 //!
 //! A *refusal* ends a restore before its first byte is written.
 #![tactic(auto)]

@@ -22,10 +22,10 @@ const ROOM: usize = RECORD_LIMIT + 2 * LENGTH_BYTES as usize;
 /// Writes the payload of a dump to an output, from the reels of a shelf in any order.
 ///
 /// All reels are read and checked before the first byte is written. The reels must have all volumes
-/// of one dump that is wanted, each whole, and the payload must end in the last block. Reels without
-/// a whole volume of such a dump are ignored. If reels have the same volume, they must have the same
-/// bytes. The reels of the dump are then read again: what is found there must have the same label
-/// and lengths as before.
+/// of one dump that is wanted, each whole, and the payload must end in the last block. Reels
+/// without a whole volume of such a dump are ignored. If reels have the same volume, they must have
+/// the same bytes. The reels of the dump are then read again: what is found there must have the
+/// same label and lengths as before.
 ///
 /// It allocates room for one record, and for each volume. `RestoreFault` lists the errors.
 pub fn restore<S: Shelf, W: Write>(
@@ -34,15 +34,17 @@ pub fn restore<S: Shelf, W: Write>(
     wanted: &Wanted<'_>,
     out: &mut Counted<W>,
 ) -> Result<(), RestoreFault>
-    // Suppose that the bytes of the reels are known. If the call succeeds, it has written exactly
-    // the payload of one dump that is wanted. The reels have all volumes of this dump from volume 1
-    // on, each as a whole volume and nothing else. All blocks have one size. The payload has the
-    // given length, and ends in the last block. Each reel that has a whole volume of a dump that is
-    // wanted has the same bytes as one of these volumes.
+    // Suppose that the bytes of the reels and of the output are known. If the call succeeds, it has
+    // written exactly the payload of one dump that is wanted. The reels have the volumes of this
+    // dump from volume 1 on, each as a whole volume and nothing else, and each begins where the one
+    // before it ends. All blocks have one size. The payload has the given length, and ends in the
+    // last block of these volumes, or has no block. Each reel that has a whole volume of a dump
+    // that is wanted has the same bytes as one of these volumes. If the call fails without a
+    // refusal, it has written a beginning of such a payload: nothing, a part, or all of it.
     ensures comes_back { (reels : List (List ℕ)) → S.holds shelf.old reels →
         MatchResult result (λ _. (bytes : List ℕ) × IsRestored reels wanted.now bytes × Appends (W.contents out.old.inner) (W.contents out.new.inner) bytes)
         (λ fault. IsBroken reels wanted.now (W.contents out.old.inner) (W.contents out.new.inner) fault) }
-    // If the call refuses, it has written nothing.
+    // If the call refuses, it has not changed the output.
     ensures refused { IfErr result (λ fault. IsUntouched fault out.old out.new) }
     // If the bytes of the reels are known, the call does not change them.
     ensures same { Steps S.holds shelf.old shelf.new (λ old new. new ≡ old) }

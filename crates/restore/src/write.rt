@@ -109,8 +109,8 @@ fn write_reel<M: Medium, W: Write>(
     Ok(left)
 }
 
-/// Writes the block of this size, which begins with its frame at offset `at` of a record file, up to
-/// `left` bytes. Returns how many bytes are left.
+/// Writes the block of this size, which begins with its frame at offset `at` of a record file, up
+/// to `left` bytes. Returns how many bytes are left.
 fn copy_block<M: Medium, W: Write>(
     reel: &mut M,
     at: u64,
