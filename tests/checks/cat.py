@@ -80,7 +80,7 @@ def second(label: Label = USR, blocks: list[bytes] | None = None) -> bytes:
     return images(records)
 
 
-# What takes the place of the second reel and is no whole volume: it is ignored.
+# Files without a whole volume, one in place of the second reel: it is ignored.
 IGNORED = {
     "an empty reel": b"",
     "a mark": images([None]),
@@ -102,7 +102,7 @@ IGNORED = {
     "two volumes": R2 + R3,
     "the first reel again": R1,
 }
-# What takes the place of the second reel and is refused, each with what is told.
+# Files that are refused in place of the second reel, each with what is told.
 REFUSED = {
     "a block before": (second(USR._replace(first=2)), DISPLACED),
     "a block behind": (second(USR._replace(first=4)), DISPLACED),
@@ -405,7 +405,7 @@ class Shelves(CatCase):
             self.same(f"{words}", (got.stdout, got.returncode, told), (b"", FAILED, (True, True)), got.stderr)
 
     def test_random_shelves(self) -> None:
-        """Reels of two dumps, some of them damaged, doubled or missing, and a length. What comes is what the plain model says."""
+        """Reels of two dumps, some of them damaged, doubled or missing, and a length. The result is that of the plain model."""
         first = random_seed(91)
         came: set[int] = set()
         for seed in range(first, first + SHELVES):

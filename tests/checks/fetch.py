@@ -1,6 +1,6 @@
 """Brings the reels of stacks home by the built `rdump fetch` from the built `rmtd`, and compares each copy with the reel to the byte.
 
-What a copy has to hold follows from the reel's file: a plain decoder gives its entries up to the first mark. What is printed of it is what the same
+The right copy follows from the reel's file: a plain decoder gives its entries up to the first mark. What is printed of it is what the same
 decoder says of the copy. The plain model of a tape server takes the place of `rmtd` where what is sent is looked at, or a reply is to be another
 one. The client is also killed before each call of the system that it makes at its files and its connection.
 """
@@ -112,7 +112,7 @@ class Whole(FetchCase):
         self.has("some again", copies(*reels, *more))
 
     def test_folders(self) -> None:
-        """The folder by its path, with a slash behind it, from within, and through a link. What else is in it stays."""
+        """The folder by its path, with a slash behind it, from within, and through a link. Other files in it stay."""
         self.p.folder.joinpath("link").symlink_to("into")
         for path in (INTO, f"{INTO}/", str(self.into), "link", "./into/../into"):
             self.clear({"other": b"1", ".hidden": b"2"})
@@ -192,7 +192,7 @@ class Stays(FetchCase):
             self.stays(name, data, foreign("{to}", what), {})
 
     def test_cuts(self) -> None:
-        """Reels that were cut at each kind of place have no mark. What was read is left in the part."""
+        """Reels that were cut at each kind of place have no mark. The part keeps all that was read."""
         for name, data in cuts(reel(2)).items():
             self.stays(name, data, stays("{to}", data, NO_MARK), {part_name(data): images(decoded(data)[0])})
 
@@ -322,7 +322,7 @@ class There(FetchCase):
             self.has("an equal copy", copies(data))
 
     def test_other_copies(self) -> None:
-        """They stay as they are, and so does the reel. What was read is left in the part."""
+        """They stay as they are, and so does the reel. The part keeps all that was read."""
         data = reel(2)
         for name, there in (
             ("empty", b""),

@@ -528,12 +528,12 @@ LINE = fetched(REEL).encode()
 
 # What a command leaves: the reel, and the file that is written, if any.
 Volume = tuple[bytes, bytes | None]
-# What a fetch leaves: the reels of the stack and of the bin, and the files of its folder.
+# A fetch leaves the reels of the stack and of the bin, and the files of its folder.
 Fetched = tuple[dict[str, bytes], ...]
 
 
 def over_a_volume(p: ShimmedPrograms, words: tuple[str, ...], rules: str) -> Ran[Volume]:
-    """A command of the client at a reel with a volume. What is left are the reel, and the file that is written, if any."""
+    """A command of the client at a reel with a volume. It leaves the reel, and the file that is written, if any."""
     with folders(r1=REEL) as folder, at_drive(folder, "--capacity", str(CAPACITY)) as address:
         out = folder / "out"
         filled = (it.format(out=out) for it in words)
@@ -554,7 +554,7 @@ def operation_is_right(got: Ran[Volume], more: bool) -> bool:
 
 
 def over_a_stack(p: ShimmedPrograms, rules: str) -> Ran[Fetched]:
-    """A stack of one reel is fetched. What is left are the reels of the stack and of the bin, and the files of the folder."""
+    """A stack of one reel is fetched. It leaves the reels of the stack and of the bin, and the files of the folder."""
     with folders(r1=REEL) as folder, at_drive(folder, "--capacity", str(CAPACITY)) as address:
         into = folder / "into"
         into.mkdir()
