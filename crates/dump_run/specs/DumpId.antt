@@ -1,5 +1,4 @@
--- Which dump it is: what a run and the labels of its volumes have in common. No public contract
--- needs it.
+-- The identity of a dump: the values that its run and the labels of its volumes share.
 use Rattle.std.specs.Prelude.{◌≡◌, ℕ, ◌≤◌, List}
 use Rattle.dumpdates.specs.Entry.{IsName, last_second}
 

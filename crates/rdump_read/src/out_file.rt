@@ -20,7 +20,7 @@ enum FileKind {
 }
 
 /// The file into which a volume is read back. A regular file is locked, so that no other run writes
-/// or removes it meanwhile. What it contains is not known to contracts.
+/// or removes it meanwhile. Contracts do not know its contents.
 #[derive(Drop)]
 pub(crate) struct OutFile<'a, R> {
     rt: &'a R,

@@ -34,7 +34,7 @@ impl CopyPaths {
 }
 
 /// A copy that is made: its part, which is open and locked, so that no other run writes it
-/// meanwhile. What it contains is not known to contracts.
+/// meanwhile. Contracts do not know its contents.
 #[derive(Drop)]
 pub(crate) struct Part {
     medium: FileMedium,

@@ -1,4 +1,4 @@
--- What is restored from the record files of a dump's counted volumes is its payload.
+-- A restore from the record files of a dump's counted volumes gives its payload.
 use Rattle.std.proofs.Common.{◌≡◌, ◌≢◌, ℕ, zero, suc, ◌+◌, ◌*◌, ◌<◌, ◌≤◌, List, [], ◌∷◌, ◌++◌, length, get_or, take, drop, refl, sym, ap, subst, ◌∙◌, append_assoc, append-nil, length-append, length-take, length-drop, arith, take-add}
 use Rattle.std.proofs.lemmas.List.{drop_more, take-append-drop, take-append-le, take_all}
 use Rattle.std.proofs.lemmas.List.Elements.{All-drop, All-nil, All-take, Contains-append_right}

@@ -1,4 +1,4 @@
--- What is written of the blocks of volumes. No public contract needs it.
+-- The bytes that are written of the blocks of volumes. No public contract needs it.
 use Rattle.std.specs.Prelude.{◌≡◌, ℕ, ◌-◌, List, [], ◌∷◌, ◌++◌, Option, Result, MatchResult, length, take}
 use Rattle.std.specs.Io.KnownBytes.{Appends}
 use Rattle.std.specs.List.{concat}

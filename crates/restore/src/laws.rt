@@ -1,4 +1,4 @@
-//! A law of what is restored. It is the contract of a function that does nothing.
+//! A law of restores. It is the contract of a function that does nothing.
 ghost use Rattle.std.specs.Prelude.{◌≡◌, ◌≤◌, ℕ, List, length, take};
 ghost use Rattle.std.specs.List.{concat};
 ghost use Rattle.dump_run.specs.Counts.{Covers};
