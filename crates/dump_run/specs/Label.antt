@@ -4,6 +4,7 @@ use Rattle.std.specs.Prelude.{◌≡◌, ◌≢◌, ℕ, ◌-◌, ◌≤◌, Lis
 use Rattle.std.specs.Int.{IsInRange}
 use Rattle.rmt_wire.specs.Number.{line_feed, space}
 use Rattle.dumpdates.specs.Entry.{IsName, last_second}
+use Rattle.dump_run.specs.DumpId.{PlainId, plain_id}
 use Rattle.dump_run.specs.Run.{PlainRun, plain_run, blocks_limit}
 
 -- a line: a keyword, a space, a text and a line feed
@@ -46,6 +47,10 @@ plain_label name level date since volume first =
 -- the contents of the label of volume `volume` of the run, which begins at block `first`
 abbrev pub label_of : PlainRun → ℕ → ℕ → PlainLabel
 label_of run volume first = plain_label run.name run.level run.date run.since volume first
+
+-- the dump that a label belongs to
+abbrev pub id_of : PlainLabel → PlainId
+id_of l = plain_id l.name l.level l.date l.since
 
 -- the record of these contents: a label has no device, block size or number of blocks
 abbrev pub label_record : PlainLabel → List ℕ

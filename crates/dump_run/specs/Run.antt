@@ -5,6 +5,7 @@ use Rattle.std.specs.Int.{IsInRange}
 use Rattle.rmt_wire.specs.Number.{HasNoLineFeed}
 use Rattle.rmt_wire.specs.declared.limits.TheConstants.{RECORD_LIMIT}
 use Rattle.dumpdates.specs.Entry.{IsName, last_second}
+use Rattle.dump_run.specs.DumpId.{PlainId, plain_id}
 use Rattle.dump_run.specs.declared.fault.RunFault.{RunFault}
 use Rattle.dump_run.specs.declared.fault.RunFault.TheVariants.{BadDevice, BadName, BadLevel, BadDate, BadBlockSize, TooManyBlocks}
 
@@ -23,6 +24,10 @@ pub record PlainRun : Type 0 where
 abbrev pub plain_run : List ℕ → List ℕ → ℕ → ℕ → ℕ → ℕ → ℕ → PlainRun
 plain_run device name level date since block_bytes blocks =
     record { device = device; name = name; level = level; date = date; since = since; block_bytes = block_bytes; blocks = blocks }
+
+-- the dump of a run
+abbrev pub id_of_run : PlainRun → PlainId
+id_of_run run = plain_id run.name run.level run.date run.since
 
 -- the device is 1 to 255 bytes without a line feed
 abbrev pub IsDevice : List ℕ → Type 0

@@ -1,14 +1,18 @@
-//! Which dump it is: what a run and the labels of its volumes have in common.
+//! The identity of a dump: the values that its run and the labels of its volumes share.
 
-ghost use Rattle.std.specs.Prelude.{◌≡◌, ◌↔◌, IsTrue, IsUtf8};
+ghost use Rattle.std.specs.Prelude.{◌≡◌, ◌≤◌, ◌↔◌, IfSome, IsSome, IsTrue, IsUtf8};
+ghost use Rattle.dumpdates.specs.Entry.{IsName, last_second};
 ghost use Rattle.dump_run.specs.DumpId.{IsDumpId, AreOneId, plain_id};
 
 use crate::row::Row;
+use crate::run::LAST_LEVEL;
+use dumpdates::{LAST_SECOND, is_name};
 use std::marker::Model;
 
-/// The file system, the level and the two dates of a dump. It allocates nothing.
+/// The identity of a dump: the name of the file system, the level and the two dates. It allocates
+/// nothing.
 #[derive(Drop)]
-pub(crate) struct DumpId {
+pub struct DumpId {
     name: Row,
     level: u8,
     date: u64,
@@ -27,6 +31,27 @@ impl Model for DumpId {
 }
 
 impl DumpId {
+    /// Makes an id with the given values. Returns None if a part breaks its limit.
+    ///
+    /// The name is 1 to 255 bytes of printable ASCII without a space, the level 0 to 9, and each
+    /// date 0 to `dumpdates::LAST_SECOND`. `since` is the date of the dump that this one builds on,
+    /// or 0 if there is none.
+    pub fn new(name: &str, level: u8, date: u64, since: u64) -> Option<DumpId>
+        // If the call returns an id, the id has the given values.
+        ensures made { IfSome result (λ d. d ≡ plain_id name.now level date since) }
+        // The call returns an id if and only if each value is within its limits.
+        ensures limits { IsSome result ↔ IsDumpId (plain_id name.now level date since) }
+    {
+        let level = u64::from(level);
+        if !is_name(name.as_bytes()) || level > LAST_LEVEL {
+            return None;
+        }
+        if date > LAST_SECOND || since > LAST_SECOND {
+            return None;
+        }
+        Some(DumpId::from_parts(name.as_bytes(), level, date, since))
+    }
+
     /// Makes an id of parts that are within the limits. `base` is the date of the dump that this
     /// one builds on.
     pub(crate) fn from_parts(name: &[u8], level: u64, date: u64, base: u64) -> DumpId
@@ -43,7 +68,8 @@ impl DumpId {
     }
 
     /// Returns a copy of the id. It allocates nothing.
-    pub(crate) fn copy(&self) -> DumpId
+    pub fn copy(&self) -> DumpId
+        // Returns an id with the same values.
         ensures { result ≡ self.now }
     {
         DumpId {
@@ -54,8 +80,9 @@ impl DumpId {
         }
     }
 
-    /// Whether both are the id of one dump: same name, level and dates.
-    pub(crate) fn is_same(&self, other: &DumpId) -> bool
+    /// Returns whether two ids are of the same dump: they have the same name, level and dates.
+    pub fn is_same(&self, other: &DumpId) -> bool
+        // Returns whether two ids have the same name, level and dates.
         ensures { IsTrue result ↔ AreOneId self.now other.now }
     {
         self.name() == other.name()
@@ -64,30 +91,40 @@ impl DumpId {
             && self.since == other.since
     }
 
-    /// Returns the name of the file system.
-    pub(crate) fn name(&self) -> &str
-        ensures { result.now ≡ self.now.name }
+    /// Returns the name of the file system: 1 to 255 bytes of printable ASCII without a space.
+    pub fn name(&self) -> &str
+        // Returns the name of the file system in the id: 1 to 255 bytes of printable ASCII without
+        // a space.
+        ensures told { result.now ≡ self.now.name }
+        ensures limits { IsName self.now.name }
     {
         std::str::from_utf8(self.name.as_slice()).unwrap()
     }
 
     /// Returns the level, 0 to 9.
-    pub(crate) fn level(&self) -> u8
-        ensures { result ≡ self.now.level }
+    pub fn level(&self) -> u8
+        // Returns the level in the id, at most 9.
+        ensures told { result ≡ self.now.level }
+        ensures limit { self.now.level ≤ 9 }
     {
         self.level
     }
 
-    /// Returns the date of the dump.
-    pub(crate) fn date(&self) -> u64
-        ensures { result ≡ self.now.date }
+    /// Returns the date of the dump, in seconds since the beginning of 1970 (UTC).
+    pub fn date(&self) -> u64
+        // Returns the date in the id, at most 253402300799.
+        ensures told { result ≡ self.now.date }
+        ensures limit { self.now.date ≤ last_second }
     {
         self.date
     }
 
-    /// Returns the date of the dump that this dump builds on, or 0 if there is none.
-    pub(crate) fn since(&self) -> u64
-        ensures { result ≡ self.now.since }
+    /// Returns the date of the earlier dump that this dump builds on: seconds since the beginning
+    /// of 1970 (UTC), or 0 if there is no earlier dump.
+    pub fn since(&self) -> u64
+        // Returns the date that the id has for the earlier dump, at most 253402300799.
+        ensures told { result ≡ self.now.since }
+        ensures limit { self.now.since ≤ last_second }
     {
         self.since
     }

@@ -2,6 +2,7 @@
 //! volume, and the blocks.
 //!
 //! `Run` holds the parameters of a dump: the file system, the drive and the number of blocks.
+//! `DumpId` is the identity of a dump, which a run and the labels of its volumes share.
 //! `label` returns the first record of a volume, and `VolumeLabel::read` reads one. `Blocks` is the
 //! source of the blocks, and `ListBlocks` is a source in memory. `Checkpoint` is a run and its
 //! counted volumes. `push_checkpoint` writes it as a text, and `Checkpoint::read` reads it.
@@ -31,6 +32,7 @@ mod volume_label;
 pub use blocks::{Blocks, SourceFailed};
 pub use checkpoint::{Checkpoint, push_checkpoint};
 pub use count::VolumeCount;
+pub use dump_id::DumpId;
 pub use fault::{ResumeFault, RunFault};
 pub use labels::{LABEL_BYTES, label};
 pub use laws::{one_checkpoint, one_label};

@@ -2,7 +2,7 @@
 
 ghost use Rattle.std.specs.Prelude.{◌≡◌, ℕ, ◌≤◌, ◌↔◌, List, IsTrue, IfOk, Ok};
 ghost use Rattle.dumpdates.specs.Entry.{IsName, last_second};
-ghost use Rattle.dump_run.specs.Run.{IsDevice, IsBlockSize, IsRun, IsCheckedRun, IsRunOf, AreOfOneDump, plain_run};
+ghost use Rattle.dump_run.specs.Run.{IsDevice, IsBlockSize, IsRun, IsCheckedRun, IsRunOf, AreOfOneDump, id_of_run, plain_run};
 
 use crate::RunFault;
 use crate::dump_id::DumpId;
@@ -155,6 +155,15 @@ impl Run {
             && self.level() == other.level()
             && self.block_bytes == other.block_bytes
             && self.blocks == other.blocks
+    }
+
+    /// Returns the identity of the dump.
+    pub fn id(&self) -> &DumpId
+        // Returns the name, the level and the dates of the run. The types allow no other body, so
+        // no wrong body is tried.
+        ensures { result.now ≡ id_of_run self.now }
+    {
+        &self.id
     }
 
     /// Returns the device: 1 to 255 bytes without a line feed.

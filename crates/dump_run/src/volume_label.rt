@@ -4,7 +4,7 @@ ghost use Rattle.std.specs.Prelude.{◌≡◌, ◌≤◌, ◌↔◌, IfSome, IsS
 ghost use Rattle.std.specs.Int.{IsInRange};
 ghost use Rattle.dumpdates.specs.Entry.{IsName, last_second};
 ghost use Rattle.dump_run.specs.Run.{blocks_limit};
-ghost use Rattle.dump_run.specs.Label.{IsLabel, ReadsLabel, AreLabelsOfOneDump, plain_label};
+ghost use Rattle.dump_run.specs.Label.{IsLabel, ReadsLabel, AreLabelsOfOneDump, id_of, plain_label};
 ghost use Rattle.dump_run.specs.LabelParts.{FindsLabel};
 
 use crate::checkpoint::field::{name_field, number_field};
@@ -105,6 +105,15 @@ impl VolumeLabel {
         ensures { IsTrue result ↔ AreLabelsOfOneDump self.now other.now }
     {
         self.id.is_same(&other.id)
+    }
+
+    /// Returns the identity of the dump.
+    pub fn id(&self) -> &DumpId
+        // Returns the name, the level and the dates in the label. The types allow no other body, so
+        // no wrong body is tried.
+        ensures { result.now ≡ id_of self.now }
+    {
+        &self.id
     }
 
     /// Returns the name of the file system: 1 to 255 bytes of printable ASCII without a space.

@@ -4,10 +4,10 @@ use Rattle.std.proofs.lemmas.List.Elements.{All-contains, All-cons, All-nil, Con
 use Rattle.std.proofs.lemmas.List.Sums.{sum_by-append, sum_by-cons}
 use Rattle.std.specs.Prelude.{All, Contains, IfOk, Result, Ok, Err}
 use Rattle.dump_run.specs.DumpId.{PlainId}
-use Rattle.dump_run.specs.Label.{PlainLabel, AreLabelsOfOneDump}
+use Rattle.dump_run.specs.Label.{PlainLabel, AreLabelsOfOneDump, id_of}
 use Rattle.restore.specs.Chain.{AreAlike, AreLinked, IsAmong, IsChain, IsReelOf, block_count}
 use Rattle.restore.specs.Found.{IsFound}
-use Rattle.restore.specs.Volumes.{id_of, volume_label}
+use Rattle.restore.specs.Volumes.{volume_label}
 use Rattle.restore.specs.declared.volume.FoundVolume.{FoundVolume}
 
 -- the volume is on its reel

@@ -6,12 +6,13 @@ use Rattle.std.proofs.lemmas.List.Sums.{sum_by-cons}
 use Rattle.std.specs.List.{concat}
 use Rattle.std.specs.Prelude.{All, Contains, IsPermutation}
 use Rattle.dump_run.specs.DumpId.{PlainId}
+use Rattle.dump_run.specs.Label.{id_of}
 use Rattle.restore.proofs.Blocks.{one_size}
 use Rattle.restore.proofs.ChainMore.{IsOnReel, among_still}
 use Rattle.restore.specs.Chain.{AreLinked, IsAmong, IsChain, IsChosen, IsComplete, block_count}
 use Rattle.restore.specs.Found.{AreFound, IsFound, IsWantedVolume}
 use Rattle.restore.specs.Restored.{ArePlaces, Fits, IsLengthOf, IsRestored, Place, PlainWanted, blocks_in}
-use Rattle.restore.specs.Volumes.{AreBlocks, HasVolume, IsVolumeFile, id_of, volume_label}
+use Rattle.restore.specs.Volumes.{AreBlocks, HasVolume, IsVolumeFile, volume_label}
 use Rattle.restore.specs.Written.{AreTheBlocks}
 use Rattle.restore.specs.declared.volume.FoundVolume.{FoundVolume}
 

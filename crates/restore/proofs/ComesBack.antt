@@ -12,15 +12,15 @@ use Rattle.tape.specs.Tape.{PlainEntry}
 use Rattle.tape.specs.Tape.PlainEntry.{Record, Mark}
 use Rattle.dump_run.specs.Counts.{Covers, CoversFrom}
 use Rattle.dump_run.specs.DumpId.{PlainId}
-use Rattle.dump_run.specs.Label.{IsLabel, PlainLabel, label, label_of, label_record}
-use Rattle.dump_run.specs.Run.{IsBlockSize, IsRun, PlainRun, blocks_limit}
+use Rattle.dump_run.specs.Label.{IsLabel, PlainLabel, label, label_of, label_record, id_of}
+use Rattle.dump_run.specs.Run.{IsBlockSize, IsRun, PlainRun, blocks_limit, id_of_run}
 use Rattle.dump_run.specs.declared.count.VolumeCount.{VolumeCount}
 use Rattle.volume_sum.specs.Volume.{block_records, whole_volume}
 use Rattle.restore.proofs.FoundMore.{same_label}
 use Rattle.restore.proofs.Whole.{OneHolding, spelled, volume_entries}
-use Rattle.restore.specs.Dumped.{AreThere, IsPayloadOf, IsThere, id_of_run}
+use Rattle.restore.specs.Dumped.{AreThere, IsPayloadOf, IsThere}
 use Rattle.restore.specs.Restored.{ArePlaces, Fits, IsRestored, Place, PlainWanted, blocks_in}
-use Rattle.restore.specs.Volumes.{AreBlocks, HasVolume, IsVolumeFile, id_of, volume_file, volume_label}
+use Rattle.restore.specs.Volumes.{AreBlocks, HasVolume, IsVolumeFile, volume_file, volume_label}
 
 -- blocks of a payload as records
 records_are : (payload : List (List ℕ)) (first count : ℕ) → first + count ≤ length payload

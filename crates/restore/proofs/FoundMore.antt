@@ -4,14 +4,14 @@ use Rattle.std.proofs.lemmas.List.Elements.{All-push, Contains-append_left, Cont
 use Rattle.std.specs.Prelude.{All, Contains}
 use borrow.Author.Count.{below_more}
 use Rattle.tape.proofs.Spelling.{spells_in}
-use Rattle.dump_run.specs.Label.{PlainLabel}
+use Rattle.dump_run.specs.Label.{PlainLabel, id_of}
 use Rattle.reel_check.specs.Holding.{IsHolding}
 use Rattle.reel_check.specs.declared.holding.Holding.TheVariants as holding
 use Rattle.reel_check.specs.declared.holding.Volume.{Volume}
 use Rattle.restore.proofs.Whole.{OneHolding, is_volume, same_volume, spelled, volume_entries, whole_of}
 use Rattle.restore.specs.Found.{AreFound, IsFound, IsWantedVolume}
 use Rattle.restore.specs.Restored.{PlainWanted, Fits}
-use Rattle.restore.specs.Volumes.{HasVolume, IsVolumeFile, id_of}
+use Rattle.restore.specs.Volumes.{HasVolume, IsVolumeFile}
 use Rattle.restore.specs.declared.volume.FoundVolume.{FoundVolume}
 
 -- a record file is of one volume

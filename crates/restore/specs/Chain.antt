@@ -1,10 +1,10 @@
 -- The volumes of one dump, each beginning where the one before it ends. No public contract needs it.
 use Rattle.std.specs.Prelude.{◌≡◌, ℕ, ◌+◌, List, [], ◌∷◌, ◌≢◌, All, Contains, get_or, length, sum_by}
 use Rattle.dump_run.specs.DumpId.{PlainId}
-use Rattle.dump_run.specs.Label.{AreLabelsOfOneDump}
+use Rattle.dump_run.specs.Label.{AreLabelsOfOneDump, id_of}
 use Rattle.restore.specs.Found.{IsFound}
 use Rattle.restore.specs.Restored.{PlainWanted, Fits, IsLengthOf}
-use Rattle.restore.specs.Volumes.{HasVolume, id_of, volume_label}
+use Rattle.restore.specs.Volumes.{HasVolume, volume_label}
 use Rattle.dump_run.specs.Label.{PlainLabel}
 use Rattle.restore.specs.declared.volume.FoundVolume.{FoundVolume}
 

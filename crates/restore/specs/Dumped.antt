@@ -1,15 +1,10 @@
 -- A dump whose counted volumes are on the reels of a shelf. Public contracts cite it.
 use Rattle.std.specs.Prelude.{◌≡◌, ℕ, ◌<◌, List, [], All, Contains, get_or, length}
 use Rattle.tape.specs.RecordFile.{images_of}
-use Rattle.dump_run.specs.DumpId.{PlainId, plain_id}
 use Rattle.dump_run.specs.Label.{IsLabel, label_of}
 use Rattle.dump_run.specs.Run.{PlainRun}
 use Rattle.dump_run.specs.declared.count.VolumeCount.{VolumeCount}
 use Rattle.volume_sum.specs.Volume.{whole_volume}
-
--- the dump of a run
-abbrev pub id_of_run : PlainRun → PlainId
-id_of_run run = plain_id run.name run.level run.date run.since
 
 -- the blocks of a run: as many as it has, each of its size
 pub record IsPayloadOf (run : PlainRun) (payload : List (List ℕ)) : Type 0 where

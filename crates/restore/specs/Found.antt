@@ -1,8 +1,8 @@
 -- The whole volumes that are found on the reels of a shelf. No public contract needs it.
 use Rattle.std.specs.Prelude.{◌≡◌, ℕ, ◌<◌, List, All, Contains, Option, Some, None, length}
-use Rattle.dump_run.specs.Label.{PlainLabel}
+use Rattle.dump_run.specs.Label.{PlainLabel, id_of}
 use Rattle.restore.specs.Restored.{PlainWanted, Fits}
-use Rattle.restore.specs.Volumes.{HasVolume, IsVolumeFile, id_of}
+use Rattle.restore.specs.Volumes.{HasVolume, IsVolumeFile}
 use Rattle.restore.specs.declared.volume.FoundVolume.{FoundVolume}
 
 -- the reel has the volume that was found, with these blocks

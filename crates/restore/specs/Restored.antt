@@ -7,8 +7,8 @@ use Rattle.std.specs.declared.vec.Vec.{Vec}
 use Rattle.rmt_wire.specs.Counted.{Counting}
 use Rattle.rmt_wire.specs.ReplyWriter.{AppendsBeginning}
 use Rattle.dump_run.specs.DumpId.{PlainId}
-use Rattle.dump_run.specs.Label.{PlainLabel}
-use Rattle.restore.specs.Volumes.{HasVolume, id_of, volume_label}
+use Rattle.dump_run.specs.Label.{PlainLabel, id_of}
+use Rattle.restore.specs.Volumes.{HasVolume, volume_label}
 use Rattle.restore.specs.declared.fault.RestoreFault.{RestoreFault}
 use Rattle.restore.specs.declared.fault.RestoreFault.TheVariants.{Refused, Reel, Output}
 

@@ -2,13 +2,9 @@
 use Rattle.std.specs.Prelude.{◌≡◌, ℕ, ◌<◌, ◌≤◌, List, [], ◌∷◌, ◌++◌, All, get_or, length, map}
 use Rattle.tape.specs.Tape.PlainEntry.{Record, Mark}
 use Rattle.tape.specs.RecordFile.{images_of}
-use Rattle.dump_run.specs.DumpId.{PlainId, plain_id}
+use Rattle.dump_run.specs.DumpId.{PlainId}
 use Rattle.dump_run.specs.Label.{PlainLabel, IsLabel, plain_label, label_record}
 use Rattle.dump_run.specs.Run.{IsBlockSize, blocks_limit}
-
--- the dump that a label belongs to
-abbrev pub id_of : PlainLabel → PlainId
-id_of l = plain_id l.name l.level l.date l.since
 
 -- the label of a dump's volume with this number, which begins at this block
 abbrev pub volume_label : PlainId → ℕ → ℕ → PlainLabel

@@ -2,9 +2,9 @@
 ghost use Rattle.std.specs.Prelude.{◌≡◌, ◌≤◌, ℕ, List, length, take};
 ghost use Rattle.std.specs.List.{concat};
 ghost use Rattle.dump_run.specs.Counts.{Covers};
-ghost use Rattle.dump_run.specs.Run.{PlainRun, IsRun};
+ghost use Rattle.dump_run.specs.Run.{PlainRun, IsRun, id_of_run};
 ghost use Rattle.dump_run.specs.declared.count.VolumeCount.{VolumeCount};
-ghost use Rattle.restore.specs.Dumped.{AreThere, IsPayloadOf, id_of_run};
+ghost use Rattle.restore.specs.Dumped.{AreThere, IsPayloadOf};
 ghost use Rattle.restore.specs.Restored.{Fits, IsRestored, PlainWanted};
 
 use reel_check::one_holding;

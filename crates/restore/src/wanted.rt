@@ -1,7 +1,7 @@
 //! The dump that is wanted.
 ghost use Rattle.std.specs.Prelude.{◌↔◌, IsTrue};
+ghost use Rattle.dump_run.specs.Label.{id_of};
 ghost use Rattle.restore.specs.Restored.{Fits};
-ghost use Rattle.restore.specs.Volumes.{id_of};
 
 use dump_run::VolumeLabel;
 use std::marker::Model;
