@@ -61,8 +61,8 @@ stays_booked w u told s client k = record {
     unentered = λ e among. q.unentered e (subst (λ l. Contains l e) s.entered among);
   });
   none = grind (arith, in_more);
-  earned = λ e among. (let (b, at, covers, counted) = k.earned e (subst (λ l. Contains l e) s.entered among) in
-      (b, ap (λ l. numbered l e.run) s.begun ∙ at, covers, stays_listed w u told s e.run e.listed counted));
+  earned = λ e among. (let (b, at, covers, volumes, counted) = k.earned e (subst (λ l. Contains l e) s.entered among) in
+      (b, ap (λ l. numbered l e.run) s.begun ∙ at, covers, volumes, stays_listed w u told s e.run e.listed counted));
   once = subst AreOnce (sym s.entered) k.once;
   finished = λ c e is. (client c is).finished e;
   dates = s.dates ∙ k.dates ∙ sym (ap (λ l. dates_after l [] u.entered) s.begun ∙ ap (dates_after w.begun []) s.entered);
@@ -122,7 +122,7 @@ started_booked w run payload reader k =
       listed = grind arith;
       kept = λ z at. absurd cc;
       none = λ run past. k.none run (omega (arith, past, many));
-      earned = λ e among. (let (b, at, covers, counted) = k.earned e among in (b, numbered_more w.begun _ e.run b at, covers, counted));
+      earned = λ e among. (let (b, at, covers, volumes, counted) = k.earned e among in (b, numbered_more w.begun _ e.run b at, covers, volumes, counted));
       once = k.once;
       finished = λ c e at among same. (let x = k.earned e among in let few = numbered_within w.begun e.run x.0 x.1 in grind arith);
       dates = k.dates ∙ sym (more_dates w.begun (b ∷ []) [] w.entered (λ e among. (let x = k.earned e among in (x.0, x.1))));
@@ -144,6 +144,7 @@ entered_booked w c there stage not_yet lawful k =
     let b = k.begun c there in
     let now : Entered = record { run = c.number; listed = c.at.counts } in
     let covers : Covers b.0.run c.at.counts = subst (λ r. Covers r c.at.counts) (sym b.2) (subst (StageFits c.at.run c.at.counts) stage lawful.stage) in
+    let volumes : AreVolumes b.0.run 1 0 c.at.counts = subst (λ r. AreVolumes r 1 0 c.at.counts) (sym b.2) lawful.counts in
     record {
       last = k.last;
       begun = k.begun;
@@ -152,7 +153,7 @@ entered_booked w c there stage not_yet lawful k =
       none = k.none;
       earned = λ e among. elim (Contains-push_cases w.entered now e among) [
         | inl before ↦ k.earned e before
-        | inr is ↦ subst (IsEarned (recorded w c)) is (b.0, b.1, covers, k.listed c there)
+        | inr is ↦ subst (IsEarned (recorded w c)) is (b.0, b.1, covers, volumes, k.listed c there)
       ];
       once = once_more w.entered now (λ f among same. not_yet (f, among, same)) k.once;
       finished = λ d e is among same. ap (λ (z : WorldClient). z.at.stage) (sym (same_Some c d (sym there ∙ is))) ∙ stage;

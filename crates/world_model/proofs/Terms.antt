@@ -23,7 +23,7 @@ pub use Rattle.dump_client.specs.declared.step.Step.{Step}
 pub use Rattle.dump_client.specs.declared.step.Step.TheVariants.{Open, Close, Operation, Look, Label, Block}
 pub use Rattle.dump_client.specs.declared.step.TapeOp.{TapeOp}
 pub use Rattle.dump_client.specs.declared.step.TapeOp.TheVariants.{Mark, Unload, Rewind, RewindAgain, Mark as MarkTape}
-pub use Rattle.dump_run.proofs.Cut.{size_cut}
+pub use Rattle.dump_run.proofs.Cut.{length_cut, size_cut}
 pub use Rattle.dump_run.specs.Blocks.{cut_blocks}
 pub use Rattle.dump_run.specs.Counts.{AreVolumes, checkpoint_after}
 pub use Rattle.dump_run.specs.Label.{label, label_bytes, label_lines}

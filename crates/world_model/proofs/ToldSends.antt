@@ -1,6 +1,6 @@
 -- What is told of each connection, when a run is begun, an attempt starts, or the client sends.
 use Rattle.world_model.proofs.Basics.{◌≡◌, length-take, ◌⊎◌, ℕ, suc, ◌+◌, ◌*◌, ◌≤◌, Bool, true, List, [], ◌∷◌, ◌++◌, length, append_assoc, get_or, drop, Option, Some, None, refl, sym, ap, subst, ◌∙◌, inl, inr, arith, same_Some, append-nil}
-use Rattle.world_model.proofs.Terms.{SpellsRequest, request_text, held, ReplyHeld, reply_held, ServerConnection, side, Idle, PlainRun, IsRun, cut_blocks, size_cut, request_of, standing, checkpoint_of, IsLawful, StageFits, HasFedAt, Step, Open, TapeOp, Ready, ToSend, Waiting, World, Connection, AttemptState, Begun, WorldClient, numbered, side_of, connection_of, new_connection, sent_on, noted_sent, NoRun, caller, fresh, client_connected, sent_connection, next_text, AreTidy, AreBooked, IsOwned, HasDone, AreUnserved, IsPending, IsConnectionSettled, IsConnectionSent, IsAttempt, IsItsTurn, IsStepAsked, IsConnectionToldAt, IsGood, AreTold, request_in}
+use Rattle.world_model.proofs.Terms.{SpellsRequest, request_text, held, ReplyHeld, reply_held, ServerConnection, side, Idle, PlainRun, IsRun, cut_blocks, length_cut, size_cut, request_of, standing, checkpoint_of, IsLawful, StageFits, HasFedAt, Step, Open, TapeOp, Ready, ToSend, Waiting, World, Connection, AttemptState, Begun, WorldClient, numbered, side_of, connection_of, new_connection, sent_on, noted_sent, NoRun, caller, fresh, client_connected, sent_connection, next_text, AreTidy, AreBooked, IsOwned, HasDone, AreUnserved, IsPending, IsConnectionSettled, IsConnectionSent, IsAttempt, IsItsTurn, IsStepAsked, IsConnectionToldAt, IsGood, AreTold, request_in}
 use Rattle.dump_client.specs.Script.{number_of}
 use Rattle.world_model.proofs.Ground.{pushed_is, numbered_more, done_few, fresh_unread, changed_told, joined_told, mapped, Sender}
 use Rattle.world_model.proofs.Moves as move
@@ -32,7 +32,7 @@ begun_told w u b good begun connections server none t = record {
 
 pub started_good : (run : PlainRun) (payload : List ℕ) → IsRun run → length payload ≡ run.blocks * run.block_bytes
     → IsGood (record { run = run; payload = cut_blocks run.blocks run.block_bytes payload })
-started_good run payload good size = grind (arith, cut_most, size_cut)
+started_good run payload good size = grind (arith, cut_most, length_cut, size_cut)
 
 pub no_run_idle : (w : World) → NoRun w → IsOwned w → (k : ℕ) → w.own ≡ Some k → ⊥
 no_run_idle w given o k known = grind arith

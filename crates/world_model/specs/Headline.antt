@@ -7,6 +7,7 @@
 -- open is the one that the client had then, whoever made the open, and empty without a client.
 use Rattle.std.specs.Prelude.{◌≡◌, ℕ, ◌+◌, ◌<◌, ◌≤◌, List, [], Contains, Some}
 use Rattle.dump_client.specs.Position.{Covers}
+use Rattle.dump_run.specs.Counts.{AreVolumes}
 use Rattle.dump_run.specs.declared.count.VolumeCount.{VolumeCount}
 use Rattle.world_model.specs.World.{World, AttemptState, Begun, Count, Opening, Entered, numbered}
 use Rattle.world_model.specs.Changes.{opening, HasDump}
@@ -61,9 +62,12 @@ abbrev pub AreOnce : List Entered → Type 0
 AreOnce es = (i j : ℕ) (e f : Entered) → numbered es i ≡ Some e → numbered es j ≡ Some f → e.run ≡ f.run → i ≡ j
 
 -- The run was begun. The counts that the client had when the run was entered cover all its blocks,
--- in order. Each of them is among the counts of that run.
+-- in order, and none is of a volume without blocks, unless the run has no block. Each of them is
+-- among the counts of that run.
 abbrev pub IsEarned : World → Entered → Type 0
-IsEarned w e = (b : Begun) × (numbered w.begun e.run ≡ Some b) × Covers b.run e.listed × AreCountedIn w e.run e.listed
+IsEarned w e =
+    (b : Begun) × (numbered w.begun e.run ≡ Some b) × Covers b.run e.listed × AreVolumes b.run 1 0 e.listed
+    × AreCountedIn w e.run e.listed
 
 -- Statement 3: dumpdates is what entering these runs, in order, makes of an empty file. No run was
 -- entered twice, and each was earned.

@@ -90,7 +90,7 @@ pub record IsWorldKept (w : World) : Type 0 where
   -- device fault.
   --
   -- Field `good`: Each run that was begun is within the limits of a run (`IsRun`). The run's
-  -- payload contains all blocks of the run, and each block has the run's block size.
+  -- payload has exactly as many blocks as the run, and each block has the run's block size.
   --
   -- Field `own`: While an attempt is under way, the attempt is for the client's current run and
   -- current volume. The attempt is in one of three states. In the first state, the client is about
@@ -141,9 +141,10 @@ pub record IsWorldKept (w : World) : Type 0 where
   --
   -- Fields `earned`, `once`, `finished`, `dates`: Each run that was entered in dumpdates was begun,
   -- and was entered once. When a run was entered, the volumes in the client's list contained all
-  -- blocks of the run, in order. The history has a count of each volume in this list. If the
-  -- client's current run was entered, this run is finished. Entering the same runs in an empty
-  -- list, in the same order, results in exactly the entries of dumpdates.
+  -- blocks of the run, in order. Each of these volumes had at least one block, unless the run had
+  -- none. The history has a count of each volume in this list. If the client's current run was
+  -- entered, this run is finished. Entering the same runs in an empty list, in the same order,
+  -- results in exactly the entries of dumpdates.
   pub booked : AreBooked w
   -- No two reels have the same name. Each reel of an accepted open in the history still exists.
   pub once : AreNamed w

@@ -1,5 +1,5 @@
 -- In reading order: World, Events, Changes, Rows, Steps, First; History, Standing, Written,
--- Headline, Sums; Further; Serving, Talk, Faultless. How it is proved: Owning, Naming, Sending,
+-- Headline, Sums, Restores; Further; Serving, Talk, Faultless. How it is proved: Owning, Naming, Sending,
 -- Attempts, Sparing, Kept.
 pub mod World
 pub mod Events
@@ -12,6 +12,7 @@ pub mod Standing
 pub mod Written
 pub mod Headline
 pub mod Sums
+pub mod Restores
 pub mod Further
 pub mod Naming
 pub mod Kept

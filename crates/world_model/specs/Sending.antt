@@ -186,11 +186,12 @@ pub record IsConnectionTold (w : World) (k : ℕ) (o : Option ServerConnection) 
   pub sent : (d : AttemptState) → l.dump ≡ Some d → IsConnectionSent w.begun o l d
   pub own : (d : AttemptState) (c : WorldClient) → l.dump ≡ Some d → w.own ≡ Some k → w.caller ≡ Some c → IsConnectionToldAt c.at.stage w.begun o l c d
 
--- The run is within its limits, and each block of the payload fits a record. The payload has all
--- blocks of the run, each of the run's block size.
+-- The run is within its limits, and each block of the payload fits a record. The payload has as
+-- many blocks as the run, each of the run's block size.
 pub record IsGood (b : Begun) : Type 0 where
   pub run : IsRun b.run
   pub blocks : (n : ℕ) → length (get_or b.payload n []) ≤ RECORD_LIMIT
+  pub many : length b.payload ≡ b.run.blocks
   pub whole : (i : ℕ) → i < b.run.blocks → length (get_or b.payload i []) ≡ b.run.block_bytes
 
 -- Each run that was begun is good, and `IsConnectionTold` holds of each connection.

@@ -13,6 +13,7 @@ ghost use Rattle.world_model.specs.Steps.{Runs, Happens};
 ghost use Rattle.world_model.specs.First.{PlainDriveSpec, AreGoodDrives, first_world, IsReached};
 ghost use Rattle.world_model.specs.Headline.{Headline, CountedReels, IsNotReopened, NoTwoHolders, DumpdatesGained};
 ghost use Rattle.world_model.specs.Sums.{CountedSums};
+ghost use Rattle.world_model.specs.Restores.{DumpsComeBack};
 ghost use Rattle.world_model.specs.Written.{IsAlone};
 ghost use Rattle.world_model.specs.Further.{SentRequests, LatchedReels, ReelsNotReopened, OwnOpens, LabelledReels, ClientsCounts, CountsGrow};
 ghost use Rattle.world_model.specs.Standing.{AreHeld};
@@ -22,6 +23,7 @@ ghost use Rattle.world_model.specs.Talk.{Talks, IsBeginning};
 ghost use Rattle.world_model.specs.Serving.{ServerTurn, IsNextSent, Meets, OthersStay, IsMoveDone, IsWholeInBin};
 
 use dump_client::same_run;
+use restore::what_was_dumped_comes_back;
 use rmt_wire::{dropped_writes, one_reading, one_reply, one_reply_reading};
 
 /// Two lists of events, one after the other, lead to the same world as the joined list.
@@ -57,6 +59,10 @@ pub fn one_run()
 /// (`unopened`), and nobody else has written on it (`unwritten`).
 ///
 /// A reel that was counted and not reopened has the sum of its volume (`counted_sums`).
+///
+/// What was dumped comes back (`dumps_come_back`). For each volume of a dump in dumpdates, take the
+/// record file of a reel on which it was counted and that was not reopened. From a shelf with these
+/// reels, nothing but the dump's payload is restored.
 ///
 /// An attempt's reel holds what the attempt wrote, and nothing else (`labelled_reels`). This holds
 /// if the attempt's label was accepted, no write of it met a device fault, and no other session
@@ -133,8 +139,19 @@ pub fn kept()
     // The history lists the runs that were entered in dumpdates. If these runs are entered in an
     // empty list in the history's order, the list then has exactly the entries of dumpdates. No run
     // was entered twice. When a run was entered, the volumes in the client's list contained all
-    // blocks of the run, in order. The history has a count of each volume in this list.
+    // blocks of the run, in order. Each of these volumes had at least one block, unless the run had
+    // none. The history has a count of each volume in this list.
     ensures dumpdates_gained { (w : World) → IsWorldKept w → DumpdatesGained w }
+    // What was dumped comes back. A *shelf* is a list of reels, each as the bytes of a record file.
+    // Suppose that a run was entered in dumpdates. For each volume in the list that the client had
+    // then, choose one of the counts that the history has of the run's volume. A volume can have
+    // several counts, and any of them can be chosen. Suppose that no foreign session reopened a
+    // reel of these counts, and that the shelf has the record file of each of these reels. The
+    // shelf can have any other reels too, in any order. Suppose also that the run's dump is one
+    // that is wanted, and that the wanted length is at most that of the payload. The payload is the
+    // joined blocks with which the run began. Then whatever the call `restore` can restore from the
+    // shelf is the beginning of the payload that has the wanted length.
+    ensures dumps_come_back { (w : World) → IsWorldKept w → DumpsComeBack w }
     // On each connection of the client, the server has carried out as many requests as the client
     // sent, or one fewer.
     ensures sent_requests { (w : World) → IsWorldKept w → SentRequests w }
@@ -167,6 +184,7 @@ pub fn kept()
     dropped_writes();
     one_reply();
     one_reply_reading();
+    what_was_dumped_comes_back();
 }
 
 /// This law says what happens when the server carries out one request, in a world that satisfies
