@@ -7,6 +7,7 @@ ghost use Rattle.std.specs.Prelude.{◌≡◌, IfOk, map};
 ghost use Rattle.world_model.specs.First.{AreGoodDrives, first_world, IsReached};
 ghost use Rattle.world_model.specs.Headline.{Headline, CountedReels, NoTwoHolders, DumpdatesGained};
 ghost use Rattle.world_model.specs.Sums.{CountedSums};
+ghost use Rattle.world_model.specs.Restores.{DumpsComeBack};
 ghost use Rattle.world_model.specs.Further.{SentRequests, ReelsNotReopened, OwnOpens, LatchedReels, LabelledReels, ClientsCounts};
 ghost use Rattle.world_model.specs.Standing.{AreHeld};
 ghost use Rattle.world_model.specs.Kept.{IsWorldKept};
@@ -82,6 +83,9 @@ impl World {
     ///   MTOFFL, the attempt's session has the reel positioned at its end.
     /// - The entries of each reel that was counted and not reopened have the sum of the count's
     ///   volume (`counted_sums`).
+    /// - What was dumped comes back (`dumps_come_back`). For each volume of a dump in dumpdates,
+    ///   take the record file of a reel on which it was counted and that was not reopened. From a
+    ///   shelf with these reels, nothing but the dump's payload is restored.
     /// - Each volume in the client's list was counted under the number of its run.
     /// - While the reel of a count is not reopened, only the count's own session has written on it
     ///   since its open (`reels_not_reopened`).
@@ -126,8 +130,20 @@ impl World {
         // an empty list, in the same order, results in exactly the entries of dumpdates. No run was
         // entered twice. The *client's list* is the list of counted volumes that the client holds.
         // When a run was entered, the volumes in this list contained all blocks of the run, in
-        // order. The history has a count of each volume in this list.
+        // order. Each of these volumes had at least one block, unless the run had none. The history
+        // has a count of each volume in this list.
         ensures dumpdates_gained { DumpdatesGained self.now }
+        // What was dumped comes back. A *shelf* is a list of reels, each as the bytes of a record
+        // file. Suppose that a run was entered in dumpdates. For each volume in the list that the
+        // client had then, choose one of the counts that the history has of the run's volume. A
+        // volume can have several counts, and any of them can be chosen. Suppose that no foreign
+        // session reopened a reel of these counts, and that the shelf has the record file of each
+        // of these reels. The shelf can have any other reels too, in any order. Suppose also that
+        // the run's dump is one that is wanted, and that the wanted length is at most that of the
+        // payload. The payload is the joined blocks with which the run began. Then whatever the
+        // call `restore` can restore from the shelf is the beginning of the payload that has the
+        // wanted length.
+        ensures dumps_come_back { DumpsComeBack self.now }
         // On each connection of the client, the server has carried out as many requests as the
         // client sent, or one fewer.
         ensures sent_requests { SentRequests self.now }
