@@ -3,7 +3,7 @@
     python3 -m bench.dump [RMTD [RDUMP]]
 
 It prints ratios of the least of several times, each with the start of the processes in it: a payload dumped in blocks of three sizes,
-the same with a sums file beside without one, and as much read back from a reel that a client of this file wrote; requests a second of an
+the same with a catalog beside without one, and as much read back from a reel that a client of this file wrote; requests a second of an
 operation that does nothing, beside a plain echo of lines over TCP; the longest time between a request and its reply; and what memory the
 server held at most.
 """
@@ -88,15 +88,15 @@ def dumped(rmtd: str, rdump: str, path: Path, block: int, *more: str) -> tuple[f
         return seconds, most_memory(server.pid)
 
 
-def with_sums(rmtd: str, rdump: str, path: Path, block: int) -> None:
-    """The time of a dump with a sums file beside that of one without. They take turns, so that what else the machine does falls on both."""
-    sums = path.with_name("sums")
+def with_catalog(rmtd: str, rdump: str, path: Path, block: int) -> None:
+    """The time of a dump with a catalog beside that of one without. They take turns, so that what else the machine does falls on both."""
+    catalog = path.with_name("catalog")
     rounds = []
     for _ in range(ROUNDS):
-        sums.unlink(missing_ok=True)
-        rounds.append([dumped(rmtd, rdump, path, block, *more)[0] for more in (("--sums", str(sums)), ())])
-        if sums.read_bytes().count(b"\n") != 1:
-            raise RuntimeError("a dump has no sum")
+        catalog.unlink(missing_ok=True)
+        rounds.append([dumped(rmtd, rdump, path, block, *more)[0] for more in (("--catalog", str(catalog)), ())])
+        if catalog.read_bytes().count(b"\n") != 3:
+            raise RuntimeError("a dump is not in its catalog")
     summed, plain = (min(times) for times in zip(*rounds))
     ratio_of_times(f"256 MiB dumped in blocks of {block:,} with a sum / without", summed, plain)
     print(f"256 MiB in blocks of {block:,} bytes: dumped with a sum in {summed / plain:.2f} times the time without")
@@ -192,7 +192,7 @@ def main() -> int:
             ratio(f"256 MiB dumped in blocks of {block:,} / cat", seconds / floor, None, told)
             print(f"256 MiB in blocks of {block:,} bytes: dumped in {seconds / floor:.1f} times the time of cat;", end=" ")
             print(f"server {rounds[0][1]:.0f} MiB at most")
-            with_sums(programs.rmtd, programs.rdump, path, block)
+            with_catalog(programs.rmtd, programs.rdump, path, block)
             seconds = read_back(programs.rmtd, programs.rdump, path, block)
             ratio(f"256 MiB read back in blocks of {block:,} / cat", seconds / floor, None, f"{PAYLOAD / seconds / 1e6:,.0f} MB/s")
             print(f"256 MiB in blocks of {block:,} bytes: read back in {seconds / floor:.1f} times the time of cat")

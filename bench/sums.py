@@ -1,4 +1,4 @@
-"""Measures `rdump ls --sums` and `rdump cat` over a reel of 256 MiB, beside `sha256sum` and `cat` of the same file in the same run.
+"""Measures `rdump ls --catalog` and `rdump cat` over a reel of 256 MiB, beside `sha256sum` and `cat` of the same file in the same run.
 
     python3 -m bench.sums [PROGRAM] [--mib N]
 
@@ -55,18 +55,21 @@ def answer(*words: str) -> str:
 
 def measure(program: Path, folder: Path, size: int, total: int) -> bool:
     """Prints the line of blocks of one size; answers whether the program says of the reel what is so."""
-    reel, lines = folder / "r1", folder / "sums"
+    reel, lines = folder / "r1", folder / "catalog"
     blocks = write_reel(reel, size, total)
-    facts = f"/usr level 0 date 951782400 since 0 volume 1 first 0, {blocks} blocks of {size} bytes, {reel.stat().st_size} bytes"
-    lines.write_text(f"{answer('sha256sum', str(reel)).split()[0]}  {facts}\n")
-    with_sums, without = (str(program), "ls", "--sums", str(lines)), (str(program), "ls")
-    if answer(*with_sums, str(reel)) != f"{reel}: {facts}: whole, sum equal\n":
+    dump, shown = "/usr level 0 date 951782400 since 0", "/usr level 0 date 951782400 (2000-02-29 00:00:00) since 0"
+    facts = f" volume 1 first 0, {blocks} blocks of {size} bytes, {reel.stat().st_size} bytes"
+    began = f"begun     {dump}: {blocks * size} bytes\n"
+    ended = f"finished  {dump}: 1 volumes, {blocks} blocks of {size} bytes, {blocks * size} bytes\n"
+    lines.write_text(f"{began}{answer('sha256sum', str(reel)).split()[0]}  {dump}{facts}\n{ended}")
+    with_sums, without = (str(program), "ls", "--catalog", str(lines)), (str(program), "ls")
+    if answer(*with_sums, str(reel)) != f"{reel}: {shown}{facts}: whole, sum equal\n\n{shown}: all volumes\n":
         print(f"blocks of {size:,}: the program's answer is not as expected")
         return False
     ours, plain, theirs, cat = least_times(reading, [(it, reel) for it in (with_sums, without, ("sha256sum",), ("cat",))], REPEATS)
     title = f"{round(total / MIB)} MiB compared, blocks of {size:,}"
-    ratio_of_times(f"ls --sums, {title} / sha256sum", ours, theirs)
-    ratio_of_times(f"ls --sums, {title} / ls", ours, plain)
+    ratio_of_times(f"ls --catalog, {title} / sha256sum", ours, theirs)
+    ratio_of_times(f"ls --catalog, {title} / ls", ours, plain)
     restored, copied = least_times(copying, [(it, reel) for it in ((str(program), "cat", "--length", str(blocks * size)), ("cat",))], REPEATS)
     ratio_of_times(f"rdump cat, {round(total / MIB)} MiB, blocks of {size:,} / cat", restored, copied)
     print(f"{title:<44}{ours / theirs:>14.2f}{ours / cat:>10.2f}{ours / plain:>10.2f}{restored / copied:>18.2f}", flush=True)
@@ -76,7 +79,7 @@ def measure(program: Path, folder: Path, size: int, total: int) -> bool:
 
 def main() -> int:
     """Measures the program, and ends with 0 where its answers were right."""
-    parser = argparse.ArgumentParser(description="Ratios of one run of rdump ls --sums and rdump cat over a long reel.")
+    parser = argparse.ArgumentParser(description="Ratios of one run of rdump ls --catalog and rdump cat over a long reel.")
     parser.add_argument("program", nargs="?", type=Path, default=BUILT, help="the built rdump")
     parser.add_argument("--mib", type=int, default=256, help="how much is compared")
     asked = parser.parse_args()
@@ -87,7 +90,7 @@ def main() -> int:
         print("skipped: sha256sum is not on this machine")
         return 0
     print(f"Ratios of this run, of the least of {REPEATS} times each.\n")
-    print(f"{'time of rdump ls --sums':<44}{'to sha256sum':>14}{'to cat':>10}{'to ls':>10}{'rdump cat to cat':>18}")
+    print(f"{'time of rdump ls --catalog':<44}{'to sha256sum':>14}{'to cat':>10}{'to ls':>10}{'rdump cat to cat':>18}")
     with tempfile.TemporaryDirectory(prefix="rdump-bench-") as folder:
         return 0 if all([measure(program, Path(folder), size, asked.mib * MIB) for size in BLOCKS]) else 1
 

@@ -28,7 +28,7 @@ from tests.lib.runner import Outcome
 CHECKS = TOP / "tests/checks"
 COUNTS = TOP / "out/counts.json"
 # The modules that take longest. They run first, so that none of them runs alone at the end.
-LONGEST = ("doors", "timeouts", "faults", "night", "refused", "sums", "kills", "schedules", "recipes", "relay", "reels")
+LONGEST = ("doors", "timeouts", "faults", "night", "refused", "catalog", "kills", "schedules", "recipes", "relay", "reels")
 PROGRAMS = ("rmtd", "rdump", "rsim")
 
 

@@ -18,13 +18,13 @@ from itertools import permutations, product
 from pathlib import Path
 from typing import Any, Iterator, Mapping, NamedTuple
 
-from tests.lib.case import Case, random_seed
-from tests.lib.cats import cat
+from tests.lib.case import random_seed
+from tests.lib.cats import LOOK_ALIKE, ReelFolder, cat
 from tests.lib.drives import files_of
 from tests.lib.dumping import DAY, DAY_BEFORE, Programs, as_nobody, in_room
 from tests.lib.ended import ABNORMAL, DONE, FAILED, Ended
 from tests.lib.given import given
-from tests.lib.listings import GREATEST_RECORD, Label, decoded, said, volume_of
+from tests.lib.listings import GREATEST_RECORD, Label, decoded, dump_words, said, volume_of
 from tests.lib.places import built
 from tests.lib.processes import guarded
 from tests.lib.servers import at_drive
@@ -71,7 +71,7 @@ def changed(path: str) -> bytes:
 
 def dump_line(label: Label) -> str:
     """The dump of a label, as it is named if there are several."""
-    return "%s level %d date %d since %d" % label[:4]
+    return dump_words(*label[:4])
 
 
 def second(label: Label = USR, blocks: list[bytes] | None = None) -> bytes:
@@ -176,25 +176,15 @@ def payload_of(volumes: list[Volume], length: int) -> bytes:
     return b"".join(block for it in {it.label.volume: it for it in volumes}.values() for block in it.blocks)[:length]
 
 
-class CatCase(Case):
-    """The command, in a folder of reels."""
-
-    def setUp(self) -> None:
-        self.folder = Path(self.enterContext(tempfile.TemporaryDirectory(prefix="cat-")))
-
-    def lay(self, files: Mapping[str, bytes]) -> None:
-        """Makes files of these bytes, and their folders."""
-        for name, data in files.items():
-            path = self.folder / name
-            path.parent.mkdir(parents=True, exist_ok=True)
-            path.write_bytes(data)
+class CatCase(ReelFolder):
+    """The command with a length, in a folder of reels."""
 
     def cat(self, length: int, *words: str, **how: Any) -> Ended[bytes]:
         return cat(length, *words, folder=self.folder, **how)
 
     def comes_back(self, name: str, payload: bytes, *words: str, length: int | None = None) -> None:
         got = self.cat(len(payload) if length is None else length, *words)
-        self.same(name, got, Ended(payload, b"", DONE))
+        self.same(name, got, Ended(payload, LOOK_ALIKE, DONE))
 
     def refused(self, name: str, why: str, *words: str, length: int = len(USR_BYTES), status: int = ABNORMAL) -> None:
         """Nothing is written, and this is told, line by line."""
@@ -314,7 +304,7 @@ class Reels(CatCase):
             got = self.cat(len(payload), "r1", "r2", "r3")
             if place in data:
                 wanted = payload[: data[place]] + other + payload[data[place] + 1 :]
-                self.same(f"byte {place} of the data", got, Ended(wanted, b"", DONE))
+                self.same(f"byte {place} of the data", got, Ended(wanted, LOOK_ALIKE, DONE))
             else:
                 self.same(f"byte {place}: nothing is written", (got.output, got.status in (FAILED, ABNORMAL)), (b"", True), got)
 
@@ -395,7 +385,8 @@ class Shelves(CatCase):
         self.lay(THREE)
         for words, why in (
             (("--length", "1"), "a FILE or a FOLDER is required"),
-            (("r1",), "--length <BYTES>"),
+            (("r1",), "--catalog or --length is required"),
+            (("--length", "1", "--catalog", "c", "r1"), "--catalog or --length is given, and not both"),
             *(((f"--length={it}", "r1"), "invalid value for '--length <BYTES>'") for it in ("", "-1", "+1", " 1", "1k", "0x1", str(1 << 63))),
             *((("--length", "1", f"--level={it}", "r1"), "invalid value for '--level <LEVEL>'") for it in ("", "10", "-1", "a", "00")),
             *((("--length", "1", f"--date={it}", "r1"), "invalid value for '--date <SECONDS>'") for it in ("", "-1", "now", str(1 << 63))),
@@ -422,7 +413,7 @@ class Shelves(CatCase):
             if faults:
                 self.same(f"shelf {seed}", (got.output, got.status in faults, got.told != b""), (b"", True, True), got, faults)
             else:
-                self.same(f"shelf {seed}", got, Ended(payload_of(volumes, length), b"", DONE))
+                self.same(f"shelf {seed}", got, Ended(payload_of(volumes, length), LOOK_ALIKE, DONE))
         self.same("each status came", came, {DONE, FAILED, ABNORMAL})
 
 
@@ -468,19 +459,19 @@ class Outputs(CatCase):
             yield run
 
     def test_a_reader_that_has_enough(self) -> None:
-        """The pipe is closed before the start, and after a byte: the status is 0, and nothing is told."""
+        """The pipe is closed before the start, and after a byte: the status is 0, and no failure is told."""
         self.lay(THREE)
         here, there = os.pipe()
         os.close(here)
-        self.same("a closed pipe", self.cat(len(USR_BYTES), "r1", "r2", "r3", stdout=there), Ended(b"", b"", DONE))
+        self.same("a closed pipe", self.cat(len(USR_BYTES), "r1", "r2", "r3", stdout=there), Ended(b"", LOOK_ALIKE, DONE))
         self.same("a closed pipe, and a reel is missing", self.cat(len(USR_BYTES), "r1", "r3", stdout=there).status, ABNORMAL)
         os.close(there)
         with self.under_way() as run:
             given(run.stdout).close()
-            self.same("closed after a byte", (given(run.stderr).read(), run.wait()), (b"", DONE))
+            self.same("closed after a byte", (given(run.stderr).read(), run.wait()), (LOOK_ALIKE, DONE))
         with self.under_way() as run:
             rest, told = run.communicate()
-            self.same("not closed", (self.LARGE[:1] + rest, told, run.returncode), (self.LARGE, b"", DONE))
+            self.same("not closed", (self.LARGE[:1] + rest, told, run.returncode), (self.LARGE, LOOK_ALIKE, DONE))
 
     def test_a_full_disk(self) -> None:
         """An output that takes nothing, and one that takes a part. That nothing is written is no failure of the output."""
@@ -537,7 +528,9 @@ class Outputs(CatCase):
         """On a terminal a line shows which reel is read, and how much was. It is cleared at the end, and before anything is told."""
         self.lay(THREE)
         shows = r"(\rreel \d, 0 MiB, \d+ [KM]iB/s\x1b\[K)+" + re.escape(CLEAR)
-        for names, payload, status, told in ((THREE, USR_BYTES, DONE, ""), (("r1", "r3"), b"", ABNORMAL, f"rdump: {MISSING}\r\n")):
+        alike = LOOK_ALIKE.decode().replace("\n", "\r\n")
+        rows = (THREE, USR_BYTES, DONE, alike), (("r1", "r3"), b"", ABNORMAL, f"rdump: {MISSING}\r\n")
+        for names, payload, status, told in rows:
             with Terminal() as terminal:
                 words = (built("rdump"), "cat", "--length", str(len(USR_BYTES)), *names)
                 ran = subprocess.run(words, cwd=self.folder, stdin=subprocess.DEVNULL, stdout=subprocess.PIPE, stderr=terminal.far, check=False)
@@ -551,7 +544,7 @@ class Outputs(CatCase):
         with compiled(self) as shim:
             shim.forget()
             got = self.cat(len(USR_BYTES), *THREE, env=shim.environment("", "/r2"))
-            self.same("no read fails", got, Ended(USR_BYTES, b"", DONE))
+            self.same("no read fails", got, Ended(USR_BYTES, LOOK_ALIKE, DONE))
             reads = len(shim.sizes("pread"))
             statuses = []
             for number in range(1, reads + 1):
@@ -596,4 +589,4 @@ class RealDumps(CatCase):
         for it in folders[2:]:
             (it / "empty").touch()
         got = cat(int(length), *source.sample("abc", 3), folder=p.folder)
-        self.same(f"{title}: the payload", got, Ended(payload, b"", DONE))
+        self.same(f"{title}: the payload", got, Ended(payload, LOOK_ALIKE, DONE))

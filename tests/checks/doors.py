@@ -28,7 +28,7 @@ from tests.lib.connections import TCP, UNIX, text_of
 from tests.lib.drives import files_of
 from tests.lib.dumping import PAYLOAD, Programs, needs
 from tests.lib.each_command import EachCommandCase, commands, unreached
-from tests.lib.ended import DONE, FAILED, Ended
+from tests.lib.ended import ABNORMAL, DONE, FAILED, Ended
 from tests.lib.given import given
 from tests.lib.listings import NOBODY
 from tests.lib.logs import ADDRESS, bare, has, lines_of, told
@@ -648,21 +648,21 @@ class BothKinds(DoorCase):
                 server.reel(f"r{number}")
             address = text_of(server.address)
             self.p.file("payload", payload)
-            for name in ("dumpdates", "sums", "volume"):
+            for name in ("dumpdates", "catalog", "volume"):
                 self.p.folder.joinpath(name).unlink(missing_ok=True)
             into = self.p.folder / at.partition(":")[0]
             into.mkdir()
             drive = ("--to", address, "--device", DEVICE)
-            dump = self.p.dump_words(address, "--update", "--protect", "--sums", "sums", block=str(BLOCK))
+            dump = self.p.dump_words(address, "--update", "--protect", "--catalog", "catalog", block=str(BLOCK))
             ran = [tried([self.p.rdump, *dump], cwd=self.p.folder)]
             held = {it.name: it.read_bytes() for it in sorted(server.bin.iterdir())}
             for it in sorted(server.bin.iterdir()):
                 it.rename(server.stacks[0] / it.name)
             for words in (
-                ("ls", *drive, "--sums", "sums"),
+                ("ls", *drive, "--catalog", "catalog"),
                 ("mt", *drive, "fsf", "1"),
                 ("read", *drive, "--out", "volume"),
-                ("fetch", *drive, "--into", str(into), "--sums", "sums"),
+                ("fetch", *drive, "--into", str(into), "--catalog", "catalog"),
             ):
                 ran.append(tried([self.p.rdump, *words], cwd=self.p.folder))
             plain = [Ended(it.output.replace(address, "ADDRESS"), it.told.replace(address, "ADDRESS"), it.status) for it in ran]
@@ -677,7 +677,9 @@ class BothKinds(DoorCase):
             self.holds(f"{at}: what a restore needs", needs("ADDRESS", SIZE, SIZE // BLOCK + 1) in dump.told, dump)
             reels = reels_of(payload, BLOCK, VOLUMES)
             self.same(f"{at}: the reels", [*it.bin.values()], reels, {name: len(data) for name, data in it.bin.items()})
-            self.holds(f"{at}: the list", listed.status == DONE and listed.output.endswith(": whole, sum equal\n"), listed)
+            reel, *rest = listed.output.splitlines()
+            self.holds(f"{at}: the list", reel.endswith(": whole, sum equal") and rest[-1].endswith(": missing: volumes 2 to 3"), listed)
+            self.same(f"{at}: the list of one of three volumes", listed.status, ABNORMAL)
             self.same(f"{at}: the operation", operation, Ended("A1\n", "", DONE))
             came = fetched.status, fetched.output.count(": whole, sum equal\n"), [data for _, data in sorted(it.copies.items())]
             self.same(f"{at}: the fetch", came, (DONE, len(reels), reels), fetched)

@@ -22,7 +22,7 @@ from tests.lib.connections import address_of
 from tests.lib.drives import drive_words, files_of, folders, held, moved_once
 from tests.lib.dumping import as_nobody, in_room
 from tests.lib.ended import ABNORMAL, DONE, FAILED, Ended
-from tests.lib.fetches import CANNOT, MOST_NAME, NO_MARK, FetchCase, copies, copy_name, copy_of, fetched, part_name, stays
+from tests.lib.fetches import CANNOT, MOST_NAME, NO_MARK, FetchCase, copies, copy_name, copy_of, fetched, label_in, part_name, stays
 from tests.lib.listeners import Relay
 from tests.lib.listings import GREATEST_RECORD, decoded
 from tests.lib.played_servers import Model
@@ -63,8 +63,9 @@ from tests.lib.terminals import CLEAR, Terminal
 from tests.lib.traced import in_order, made_in, traced
 from tests.lib.waiting import GUARD_SECONDS
 from tests.lib.wire import CLOSE, DEVICE, OFFLINE, REWIND
+from tests.models.found import ANEW, DIFFERS, UNKNOWN, VOID, begun_line, catalog_of, finished_line, sum_of, volume_line
+from tests.models.found import Dump as FoundDump
 from tests.models.rmtd import Entry, image, images
-from tests.models.sums import DIFFERS, UNKNOWN, line_of, sum_of
 
 # How many random stacks are fetched.
 STACKS = int(os.environ.get("STACKS") or 60)
@@ -222,84 +223,105 @@ class Stays(FetchCase):
         self.has("a full output", copies(reel(1)))
 
 
-class Sums(FetchCase):
-    """Reels that are compared with a sums file."""
+class Catalogs(FetchCase):
+    """Reels that are compared with a catalog."""
 
-    def test_sums(self) -> None:
-        """Sums that are equal, that differ, and that are not known. A copy whose sum is equal has the sum of the line by SHA-256."""
-        other = line_of(reel(2)).replace(sum_of(reel(2)).encode(), b"0" * 64)
+    def test_catalogs(self) -> None:
+        """Sums that are equal, and that are not known. A copy whose sum is equal has the sum of the line by SHA-256."""
+        begun = catalog_of(reel(1))
         for name, text in (
-            ("all equal", b"".join(line_of(reel(it)) for it in (1, 2, 3))),
+            ("all equal", catalog_of(*map(reel, (1, 2, 3)))),
             ("none known", b""),
-            ("one known", line_of(reel(2))),
-            ("two sums of one label", other + line_of(reel(2))),
+            ("one known", catalog_of(reel(2))),
+            ("begun anew, with equal reels", catalog_of(*map(reel, (1, 2, 3))) * 2),
+            ("no line begins the dump", b"".join(volume_line(reel(it)) for it in (1, 2, 3))),
+            ("it began, and no volume is known", begun[: begun.index(b"\n") + 1]),
         ):
             self.clear()
-            self.p.file("sums", text)
+            self.p.file("catalog", text)
             reels = [reel(it) for it in (1, 2, 3)]
             with laid(self.p, **named(*reels)) as site:
-                self.told(name, site.fetch("--sums", "sums"), fetched(*reels, sums=text), DONE, "")
+                self.told(name, site.fetch("--catalog", "catalog"), fetched(*reels, catalog=text), DONE, "")
                 site.reels(name, {}, named(*reels))
             self.has(name, copies(*reels))
-        known = {it.split()[0].decode() for it in (line_of(reel(it)) for it in (1, 2, 3))}
+        known = {volume_line(reel(it)).split()[0].decode() for it in (1, 2, 3)}
         self.same("the copies' sums", {sum_of(it.read_bytes()) for it in self.into.iterdir()}, known)
 
-    def test_sums_that_differ(self) -> None:
-        """The reel stays, and what was read is left in the part: its records."""
+    def test_reels_that_stay(self) -> None:
+        """A reel stays whose sum differs, or that is of a dump that was begun anew, or of a volume that was written again. What was read is left in
+        the part: its records."""
         changed = images([USR.label(2, 2), *blocks(2, 4), b"x" * 1024, None])
-        for name, data, text in (
-            ("a byte of a block", changed, line_of(reel(2))),
-            ("a block less", images([USR.label(2, 2), *blocks(2, 4), None]), line_of(reel(2))),
-            ("another sum", reel(2), line_of(changed)),
+        less = images([USR.label(2, 2), *blocks(2, 4), None])
+        both, first = catalog_of(reel(1), reel(2)), catalog_of(reel(1))
+        begun = first[: first.index(b"\n") + 1]
+        for name, data, text, why in (
+            ("a byte of a block", changed, both, DIFFERS),
+            ("a block less", less, both, DIFFERS),
+            ("another sum", reel(2), catalog_of(reel(1), changed), DIFFERS),
+            ("begun anew", reel(2), begun + volume_line(reel(2)) + first, ANEW),
+            ("begun anew, with another reel of this volume", reel(2), begun + volume_line(reel(2)) + catalog_of(reel(1), changed), ANEW),
+            ("written again", reel(2), both + volume_line(changed), VOID),
+            ("the volume before was written again", reel(2), begun + volume_line(changed) + volume_line(reel(2)) + volume_line(reel(1)), VOID),
         ):
             self.clear()
-            self.p.file("sums", line_of(reel(1)) + text)
+            self.p.file("catalog", text)
             files = named(reel(1), data, reel(3))
             with laid(self.p, **files) as site:
-                got = site.fetch("--sums", "sums")
-                self.told(name, got, fetched(reel(1), sums=line_of(reel(1))), ABNORMAL, stays(site.address, data, DIFFERS))
+                got = site.fetch("--catalog", "catalog")
+                self.told(name, got, fetched(reel(1), catalog=text), ABNORMAL, stays(site.address, data, why))
                 site.reels(name, {"r001": data, "r002": reel(3)}, {"r000": reel(1)})
             self.has(name, copies(reel(1)) | {part_name(data): data[:-4]})
+
+    def test_finished_dumps(self) -> None:
+        """Whether the dump is finished does not matter."""
+        text = catalog_of(reel(1))
+        dump = FoundDump(*label_in(reel(1))[:4])
+        for more in (finished_line(dump, 1), finished_line(dump, 5), begun_line(dump._replace(level=9))):
+            self.clear()
+            self.p.file("catalog", text + more)
+            with laid(self.p, r=reel(1)) as site:
+                self.told(f"{more!r}", site.fetch("--catalog", "catalog"), fetched(reel(1), catalog=text), DONE, "")
 
     def test_other_labels(self) -> None:
         """A line of another label says nothing of a reel."""
         for other in (Dump(name="/home"), Dump(level=1), Dump(date=1), Dump(since=5)):
             self.clear()
-            text = line_of(reel(2, other))
-            self.p.file("sums", text)
+            text = catalog_of(reel(2, other))
+            self.p.file("catalog", text)
             with laid(self.p, r=reel(2)) as site:
-                self.told(f"{other}", site.fetch("--sums", "sums"), fetched(reel(2), sums=text), DONE, "")
+                self.told(f"{other}", site.fetch("--catalog", "catalog"), fetched(reel(2), catalog=text), DONE, "")
 
     def test_more_behind_the_mark(self) -> None:
         """The sum is that of the copy."""
-        self.p.file("sums", line_of(reel(1)))
+        text = catalog_of(reel(1))
+        self.p.file("catalog", text)
         data = MORE["a second volume"]
         with laid(self.p, r=data) as site:
-            self.told("more behind", site.fetch("--sums", "sums"), fetched(data, sums=line_of(reel(1))), DONE, "")
+            self.told("more behind", site.fetch("--catalog", "catalog"), fetched(data, catalog=text), DONE, "")
 
     def test_reels_that_are_not_compared(self) -> None:
-        """Of a reel that is not whole, or no volume, the same is told as without sums."""
+        """Of a reel that is not whole, or no volume, the same is told as without a catalog."""
         cut = reel(2)[:-4]
         for name, data, told in (
             ("no mark", cut, stays("{to}", cut, NO_MARK)),
             *((name, data, foreign("{to}", what)) for name, (data, what) in FOREIGN.items()),
         ):
-            for text in (b"", line_of(reel(2))):
-                self.p.file("sums", text)
+            for text in (b"", catalog_of(reel(2))):
+                self.p.file("catalog", text)
                 with laid(self.p, r=data) as site:
-                    self.told(name, site.fetch("--sums", "sums"), "", ABNORMAL, told.format(to=site.address))
+                    self.told(name, site.fetch("--catalog", "catalog"), "", ABNORMAL, told.format(to=site.address))
                     site.reels(name, {"r": data}, {})
 
     def test_changed_bytes(self) -> None:
         """A byte of a small reel is changed: it is never told to be equal, and goes only if its label is another one."""
         data = images([USR.label(1, 0), b"block one", b"block two", None])
-        self.p.file("sums", line_of(data))
+        self.p.file("catalog", catalog_of(data))
         # The label's zero bytes are alike.
         for at in [it for it in range(len(data)) if not (70 < it < 1020 and it % 37)]:
             self.clear()
             changed = data[:at] + bytes((data[at] ^ 1,)) + data[at + 1 :]
             with laid(self.p, r=changed) as site:
-                got = site.fetch("--sums", "sums")
+                got = site.fetch("--catalog", "catalog")
                 is_unknown = got.status == DONE and got.output.endswith(f": whole, {UNKNOWN}\n")
                 self.holds(f"byte {at} is changed", is_unknown or (got.output, got.status) == ("", ABNORMAL), got)
                 stack, taken = ({}, {"r": changed}) if is_unknown else ({"r": changed}, {})
@@ -492,11 +514,11 @@ class Arguments(FetchCase):
             ("another argument", (*usual, "--all"), "--all"),
             ("no such folder", (*usual[:4], "--into", "missing"), "rdump: missing: No such file or directory (os error 2)\n"),
             ("a file", (*usual[:4], "--into", "file"), "rdump: file: it is no folder\n"),
-            ("no sums file", (*usual, "--sums", "missing"), "rdump: missing: No such file or directory (os error 2)\n"),
-            ("a bad sums file", (*usual, "--sums", "file"), "rdump: file: it is no sums file: line 1: bad line\n"),
-            ("a folder as the sums file", (*usual, "--sums", INTO), f"rdump: {INTO}: "),
+            ("no catalog", (*usual, "--catalog", "missing"), "rdump: missing: No such file or directory (os error 2)\n"),
+            ("a bad catalog", (*usual, "--catalog", "file"), "rdump: file: it is no catalog: line 1: bad line\n"),
+            ("a folder as the catalog", (*usual, "--catalog", INTO), f"rdump: {INTO}: "),
         ):
-            self.p.file("file", b"no sums\n")
+            self.p.file("file", b"no catalog\n")
             self.fails_before(name, words, told)
         self.has("bad arguments", {})
 
@@ -767,7 +789,7 @@ def random_reel(source: random.Random, number: int) -> RandomReel:
 
 
 class Random(FetchCase):
-    """Random stacks of random reels, with a sums file at times."""
+    """Random stacks of random reels, with a catalog at times."""
 
     def test_random_stacks(self) -> None:
         source = random.Random(random_seed(77))
@@ -782,11 +804,11 @@ class Random(FetchCase):
         files = named(*(it.data for it in reels))
         stop = next((at for at, it in enumerate(reels) if it.stays), len(reels))
         good = [it.data for it in reels[:stop]]
-        sums = b"".join(line_of(copy_of(it)) for it in good if source.random() < 0.7) if source.random() < 0.5 else None
-        more = () if sums is None else ("--sums", self.p.file("sums", sums))
+        catalog = catalog_of(*(copy_of(it) for it in good if source.random() < 0.7)) if source.random() < 0.5 else None
+        more = () if catalog is None else ("--catalog", self.p.file("catalog", catalog))
         with laid(self.p, **files) as site:
             got = site.fetch(*more)
-            self.same(name, (got.output, got.status), (fetched(*good, sums=sums), ABNORMAL if stop < len(reels) else DONE), got.told)
+            self.same(name, (got.output, got.status), (fetched(*good, catalog=catalog), ABNORMAL if stop < len(reels) else DONE), got.told)
             taken = dict([*files.items()][:stop])
             site.reels(name, {it: data for it, data in files.items() if it not in taken}, taken)
         left = files_of(self.into)[0]

@@ -1,5 +1,5 @@
 """Kills the built server at random moments of dumps, starts it again, and looks at every reel at the end of each dump; and kills the client, the
-server or both at moments of dumps with a checkpoint file and a sums file, and has the same words go on until the dump is complete.
+server or both at moments of dumps with a checkpoint file and a catalog, and has the same words go on until the dump is complete.
 
 The client connects to a gate of this file, which passes its bytes on to the server that runs: over the loopback, or over a Unix socket, whose file
 the killed server leaves, and the next one replaces. The moments are after a number of bytes either way, after some time, and around the move of a
@@ -31,9 +31,9 @@ from tests.lib.listeners import Relay
 from tests.lib.places import built
 from tests.lib.processes import guarded
 from tests.lib.wire import DEVICE
+from tests.models.catalog import Begun, Counted, Finished, Id, Line, begun, counted, in_force, lately, lines_of
 from tests.models.checkpoint import Checkpoint, decoded
 from tests.models.rmtd import Entry, images
-from tests.models.sums import line_of
 from tests.models.world import Run
 
 # The seed of the moments, and how often is killed: so often, and half as often with a checkpoint file.
@@ -255,6 +255,8 @@ WHOLE = ((1, 0, 15), (2, 15, 15), (3, 30, 10))
 COMPLETE = f"dump complete: {VOLUMES} volumes, {BLOCKS} blocks"
 DATED, LATER = ("--date", "951782400"), ("--date", "951868800")
 RUN = Run(DEVICE.encode(), b"/usr", 0, 951_782_400, 0, BLOCK, BLOCKS)
+USR = Id("/usr", 0, 951_782_400, 0)
+BEGAN, DONE = Begun(USR, BLOCK * BLOCKS), Finished(USR, VOLUMES, BLOCKS, BLOCK, BLOCK * BLOCKS)
 
 
 def reel_of(payload: bytes, number: int, first: int, count: int) -> bytes:
@@ -333,8 +335,10 @@ class KeptDump(Dump):
     def __init__(self, case: Case, title: str, folder: Path, gate: Gate, payload: bytes) -> None:
         super().__init__(case, title, folder, gate, payload)
         self.file = folder / "kept"
-        self.sums = folder / "sums"
-        self.words += ["--checkpoint", str(self.file), "--sums", str(self.sums), "--update"]
+        self.catalog = folder / "catalog"
+        self.words += ["--checkpoint", str(self.file), "--catalog", str(self.catalog), "--update"]
+        # Whether a client went on with a dump that had begun more than once, and entered nothing.
+        self.is_short = False
         # How many reels had the label of a volume when the file was first seen to have that volume.
         self.had: dict[int, int] = {}
 
@@ -344,6 +348,7 @@ class KeptDump(Dump):
         for moment in (*moments, None):
             self.gate.set(moment)
             printed, going = len(self.lines), self.spelled()
+            self.is_short = self.is_short or (bool(going) and begun(self.known(), USR) != 1)
             status = self.run(*(LATER if self.file.exists() else DATED))
             self.gate.settle()
             self.goes_on_with(going, self.lines[printed:])
@@ -383,14 +388,22 @@ class KeptDump(Dump):
         for number, _, _ in file:
             self.had.setdefault(number, self.reels_of(number))
 
+    def known(self) -> list[Line]:
+        """The lines of the catalog."""
+        return lines_of(self.catalog.read_bytes()) if self.catalog.exists() else []
+
     def lines_hold(self, counts: list[Count]) -> None:
-        """The sums file has a line for each of these counts, whose sum is that of its reel. It has no line of another volume, and none twice."""
-        found = self.sums.read_bytes().splitlines(keepends=True) if self.sums.exists() else []
+        """The catalog has a line in force for each of these counts, whose sum is that of its reel, unless nothing more was entered. It has no line of
+        another volume, and none twice since the dump began."""
+        found = self.known()
         _, bin = self.served.looked_at()
-        lines = {self.volumes.get(it): line_of(it) for it in bin.values()}
+        lines = {self.volumes.get(it): counted(it) for it in bin.values()}
+        force, own = in_force(found, USR), lately(found, USR)
         wanted = [lines.get(it) for it in counts]
-        self.holds("each count has its line", {*wanted} <= {*found}, counts, found)
-        self.holds("each line is of a reel, once", {*found} <= {*lines.values()} and len({*found}) == len(found), found)
+        self.holds("each count has its line", self.is_short or wanted == [force.get(it[0]) for it in counts], counts, found)
+        volumes = [it for it in found if isinstance(it, Counted)]
+        self.holds("each line is of a reel, once", {*volumes} <= {*lines.values()} and len({*own}) == len(own), found)
+        self.holds("it began with its payload", not found or (found[0] == BEGAN and {it for it in found if isinstance(it, Begun)} == {BEGAN}), found)
 
     def there(self) -> list[Count | None]:
         """The volumes of the bin, None for what is no volume."""
@@ -408,6 +421,8 @@ class KeptDump(Dump):
         self.reels_hold()
         self.same("each volume is in the bin", {*self.there()}, {*WHOLE})
         self.lines_hold([*WHOLE])
+        ends = [it for it in self.known() if isinstance(it, Finished)]
+        self.same("it is finished in the catalog, if that has all lines", ends, [] if self.is_short else [DONE], self.known())
         dates = self.folder / "dumpdates"
         self.same("the run is entered once", dates.read_text() if dates.exists() else None, ENTRY)
         self.same("no volume that the file had is dumped again", {number: self.reels_of(number) for number in self.had}, self.had)
@@ -442,7 +457,8 @@ class Kills(Case):
             with gate_of(Path(name), moments[0]) as gate:
                 dump = KeptDump(self, f"with a checkpoint file, killed at {moments}", Path(name), gate, self.payload)
                 status = dump.run_to_the_end(moments)
-            dump.holds("the status", status == 0 or (status == -signal.SIGKILL and dump.is_over()), status, dump.lines)
+            ended = 3 if dump.is_short else 0
+            dump.holds("the status", status == ended or (status == -signal.SIGKILL and dump.is_over()), status, dump.lines)
             dump.ends_well()
             return gate.kills
 

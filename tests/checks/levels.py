@@ -1,7 +1,7 @@
-"""Checks the restore of the recipe *Levels* of docs/OPERATING.md where not all is well: at a damaged reel it stops, and no reel is changed.
+"""Checks the recipe *Restore* of docs/OPERATING.md where not all is well: at a damaged reel it stops, and no reel is changed.
 
-The recipe runs as it stands there, up to the restore, on a machine of its own. Then a reel is damaged, and the commands of the restore run as a
-person pastes them. That takes root and unshare(1); where they are not to be had, it is named as skipped.
+The recipe runs as it stands there, up to the restore of the whole tree, on a machine of its own. Then a reel is damaged, and the commands of this
+restore run as a person pastes them. That takes root and unshare(1); where they are not to be had, it is named as skipped.
 """
 
 from __future__ import annotations
@@ -19,7 +19,7 @@ from tests.lib.inside import is_inside, run_inside
 from tests.lib.recipes import all_recipes, script_of, with_those_before
 from tests.models.rmtd import images
 
-BIN = Path("/srv/tape/bin")
+SHELF = Path("shelf")
 LABEL_BYTES = 1024
 
 
@@ -61,19 +61,19 @@ class Levels(Case):
         machines.loopback()
         machines.furnish()
         os.chdir(machines.HOME)
-        *before, recipe = with_those_before(found["Levels"], found)
-        at = next(number for number, block in enumerate(recipe.blocks) if any("rdump cat" in it.text for it in block))
+        *before, recipe = with_those_before(found["Restore"], found)
+        at = next(number for number, block in enumerate(recipe.blocks) if any("for level in" in it.text for it in block))
         status, printed = ran(script_of([*before, recipe._replace(blocks=recipe.blocks[:at])]))
         self.same("the dumps are made", status, DONE, printed[-600:])
         restore = "\n".join(it.text for it in recipe.blocks[at])
-        reels = {it.name: it.read_bytes() for it in BIN.iterdir()}
+        reels = {it.name: it.read_bytes() for it in SHELF.iterdir()}
         for name, level in (("r1", 0), ("r2", 1)):
             for title, damages in (("no mark", no_mark), ("no block", no_block), ("no label", no_label)):
                 there = reels | {name: damages(reels[name])}
-                (BIN / name).write_bytes(there[name])
+                (SHELF / name).write_bytes(there[name])
                 _, printed = ran(restore)
                 unpacked = sorted(it.name for it in Path("back").rglob("*") if it.is_file())
                 self.same(f"{title} of level {level}: what is unpacked", unpacked, ["gone", "old"] if level else [], printed)
-                self.holds(f"{title} of level {level}: the reels", there == {it.name: it.read_bytes() for it in BIN.iterdir()}, printed)
-                (BIN / name).write_bytes(reels[name])
+                self.holds(f"{title} of level {level}: the reels", there == {it.name: it.read_bytes() for it in SHELF.iterdir()}, printed)
+                (SHELF / name).write_bytes(reels[name])
                 shutil.rmtree("back")

@@ -41,6 +41,7 @@ from tests.lib.listings import (
     at_reel,
     dates_of,
     said,
+    utc,
     wire_end,
 )
 from tests.lib.places import built, is_unproved
@@ -90,7 +91,7 @@ class LsCase(Case):
 
 # The most marks that may follow one another.
 MOST_MARKS = 1_000_000
-USR_SAID = "/usr level 0 date 951782400 since 0 volume 1 first 0"
+USR_SAID = "/usr level 0 date 951782400 (2000-02-29 00:00:00) since 0 volume 1 first 0"
 TORN = image(b"torn away")
 
 ROWS = (
@@ -258,7 +259,7 @@ class Files(LsCase):
             self.skipTest("a program that is not proved takes long for millions of marks")
         many = image(None) * MOST_MARKS
         with self.rdump() as rdump:
-            rdump.put({"many": many[:-4] + image(b"x") + many, "more": VOLUME + many + image(None), "z": WHOLE, "sums": b""})
+            rdump.put({"many": many[:-4] + image(b"x") + many, "more": VOLUME + many + image(None), "z": WHOLE, "catalog": b""})
             with (rdump.folder / "huge").open("wb") as file:
                 file.truncate(1 << 40)
             lines = [
@@ -269,9 +270,9 @@ class Files(LsCase):
             ]
             got = rdump.ls("huge", "more", "many", "z")
             self.same("too many marks", (sorted(got.lines), got.told, got.status), (lines, "", NOT_WHOLE), got)
-            got = rdump.ls("--sums", "sums", "huge", "z")
-            lines = [lines[0], f"{lines[3]}, no sum known"]
-            self.same("too many marks, with sums", (sorted(got.lines), got.told, got.status), (lines, "", NOT_WHOLE), got)
+            got = rdump.ls("--catalog", "catalog", "huge", "z")
+            lines = ["", lines[0], f"{lines[3]}, no sum known"]
+            self.same("too many marks, with a catalog", (sorted(got.lines), got.told, got.status), (lines, "", NOT_WHOLE), got)
 
     def test_strange_names(self) -> None:
         """Names with bytes that are no text, or would begin a line of their own."""
@@ -306,7 +307,7 @@ class Files(LsCase):
             self.listed(f"{MANY_REELS} reels", rdump, files, "many")
             rdump.put({"dates": dates_of(("/usr", 0, 7))})
             got = rdump.ls("many", "--dumpdates", "dates", "--blocks", str(MANY_REELS))
-            last = f"/usr level 0 date 7: volumes 1 to {MANY_REELS}, all {MANY_REELS} blocks"
+            last = f"/usr level 0 date {utc(7)}: volumes 1 to {MANY_REELS}, all {MANY_REELS} blocks"
             self.same(f"the dump of {MANY_REELS} reels", (got.lines[-2:], got.status), (["", last], ALL_WHOLE))
 
     def test_long_reel(self) -> None:
@@ -428,7 +429,7 @@ class Dumps(LsCase):
             with self.rdump() as rdump:
                 rdump.put({**files, "dates": dates_of(("/usr", 0, 7)), "st0/.keep": b""})
                 got = rdump.ls("st0", "--dumpdates", "dates", *(("--blocks", str(blocks)) if blocks is not None else ()))
-            lines = [*lines_of(files), "", f"/usr level 0 date 7: {words}"]
+            lines = [*lines_of(files), "", f"/usr level 0 date {utc(7)}: {words}"]
             status = ALL_WHOLE if files and is_complete and status_of(files) == ALL_WHOLE else NOT_WHOLE
             tells = "" if files else "rdump: no reel was found\n"
             self.same(f"dump {number}", got, Listed(lines, tells, status))
@@ -439,8 +440,8 @@ class Dumps(LsCase):
         with self.rdump() as rdump:
             rdump.put({**files, "dates": dates_of(("/usr", 1, 7), ("/home", 3, 90_000), ("/usr", 0, 7)), "none": b"", "bad": b"x\n"})
             got = rdump.ls("a", "b", "--dumpdates", "dates")
-            lines = ["/usr level 1 date 7: no volume", "/home level 3 date 90000: volumes 1 to 1, ends at block 1"]
-            lines = [*lines_of(files), "", *lines, "/usr level 0 date 7: volumes 1 to 1, ends at block 2"]
+            lines = [f"/usr level 1 date {utc(7)}: no volume", f"/home level 3 date {utc(90_000)}: volumes 1 to 1, ends at block 1"]
+            lines = [*lines_of(files), "", *lines, f"/usr level 0 date {utc(7)}: volumes 1 to 1, ends at block 2"]
             self.same("entries in their order", got, Listed(lines, "", NOT_WHOLE))
             got = rdump.ls("a", "b", "--dumpdates", "none")
             self.same("no entries", got, Listed([*lines_of(files), ""], "", ALL_WHOLE))
@@ -524,7 +525,7 @@ class Drives(LsCase):
                 self.same(f"on a drive, {name}: nothing is written", (rdump.folder / "st0/r1").read_bytes(), data)
                 rdump.put({"dates": dates_of(("/usr", 0, 7))})
                 got = rdump.ls("--to", address, "--device", DEVICE, "--dumpdates", "dates")
-                self.same(f"on a drive, {name}: a dump", got.lines, [*true.lines, "", "/usr level 0 date 7: no volume"], got)
+                self.same(f"on a drive, {name}: a dump", got.lines, [*true.lines, "", f"/usr level 0 date {utc(7)}: no volume"], got)
 
     def test_progress(self) -> None:
         """On a terminal a line shows which reel is read, and how much was: of files, and of a drive. It is cleared before anything else is told. What

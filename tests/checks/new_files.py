@@ -321,7 +321,7 @@ class Modes(FileCase):
         self.same("dumpdates of mode 640: it stays so", self.mode_of("dd"), "0o640")
 
 
-# How many bytes a dumpdates file or a sums file may have, and what is told of a longer one.
+# How many bytes a dumpdates file or a catalog may have, and what is told of a longer one.
 MOST_BYTES = 256 << 20
 TOO_LONG = "it has more than 256 MiB"
 
@@ -339,7 +339,7 @@ class Kinds(FileCase):
                 ("dumpdates", (), {"dumpdates": path}),
                 ("dumpdates to be entered", ("--update",), {"dumpdates": path}),
                 ("the checkpoint", ("--checkpoint", path), {}),
-                ("the sums file", ("--sums", path), {}),
+                ("the catalog", ("--catalog", path), {}),
             )
             for title, more, changed in rows:
                 if (title, path) != ("dumpdates", "/dev/null"):
@@ -350,10 +350,10 @@ class Kinds(FileCase):
         self.told("dumpdates is the null device", self.dumped(dumpdates="/dev/null"), ONE_VOLUME, DONE, "")
 
     def test_long_files(self) -> None:
-        """A dumpdates file or a sums file that is too long is not read."""
+        """A dumpdates file or a catalog that is too long is not read."""
         rows: tuple[tuple[str, tuple[str, ...], dict[str, str | None]], ...] = (
             ("dd", (), {"dumpdates": "dd"}),
-            ("sums", ("--sums", "sums"), {}),
+            ("catalog", ("--catalog", "catalog"), {}),
         )
         for name, more, changed in rows:
             with self.p.folder.joinpath(name).open("wb") as file:
@@ -368,10 +368,10 @@ class Kinds(FileCase):
         for path, why in (("long", TOO_LONG), ("/dev/zero", "it is no plain file"), ("/dev/full", "it is no plain file")):
             tells = f"rdump: {path}: {why}\n"
             self.told(f"dates of {path}", self.p.run("dates", "--file", path), "", FAILED, tells)
-            self.told(f"ls --sums {path}", self.p.run("ls", "--sums", path, "reel"), "", FAILED, tells)
+            self.told(f"ls --catalog {path}", self.p.run("ls", "--catalog", path, "reel"), "", FAILED, tells)
             got = self.p.run("ls", "--dumpdates", path, "reel")
             self.told(f"ls --dumpdates {path}", got, "reel: 0 bytes: empty\n", FAILED, tells)
-            self.told(f"fetch --sums {path}", self.p.run(*fetch_words(NOWHERE, "--sums", path, into=".")), "", FAILED, tells)
+            self.told(f"fetch --catalog {path}", self.p.run(*fetch_words(NOWHERE, "--catalog", path, into=".")), "", FAILED, tells)
 
     def test_files_of_other_commands_that_are_read(self) -> None:
         """The null device is empty, and a pipe is read to its end."""

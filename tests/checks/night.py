@@ -28,7 +28,7 @@ from typing import Callable, NamedTuple
 
 from tests.lib import machines
 from tests.lib.case import Case, random_seed
-from tests.lib.cats import cat
+from tests.lib.cats import cat_with
 from tests.lib.checkpoints import small_disk
 from tests.lib.connections import NOWHERE, text_of, wait_for
 from tests.lib.dumping import DAY, IN_LITTLE_ROOM, PAYLOAD, label
@@ -46,8 +46,6 @@ from tests.lib.waiting import GUARD_SECONDS, soon
 from tests.lib.wire import DEVICE
 
 SIGNALS = 60
-# The size of the blocks of etc/night.
-BLOCK = 262_144
 DATE_OF_A_LABEL = 951782400
 
 # Stand-ins for a dump.
@@ -531,23 +529,9 @@ class NightScript(NightCase):
             self.holds(f"before the checkpoint: {title}, after all before it", at is not None, lines[-20:])
             lines = lines[(at or 0) + 1 :]
 
-    def test_number_before_the_dump(self) -> None:
-        """It is written before the dump begins: the dump may be entered although this script was killed. That of an earlier dump goes afterwards."""
-        earlier, other = (f"/usr level {level} date 1: 7 blocks\n" for level in (0, 1))
-        (self.place / "blocks").write_text(earlier + other)
-        number = f"/usr level 0 date {timegm(time.strptime('2026-11-29 02:00', '%Y-%m-%d %H:%M'))}: 2 blocks\n"
-        self.same("no server: the dump is not finished", self.dumps(NOWHERE).status, ABNORMAL)
-        self.same("no server: the number", (self.place / "blocks").read_text(), earlier + other + number)
-        with serving() as server:
-            server.reel("r1")
-            (self.programs / "tar").write_text("#!/bin/sh\nexit 2\n")
-            (self.programs / "tar").chmod(0o755)
-            got = self.dumps(text_of(server.address))
-            self.same("it goes on: the number", (self.place / "blocks").read_text(), other + number, got)
-
     def test_mail(self) -> None:
         """The mail names each dump before what is printed of it. If a dump fails, its last lines say how it ended, and what to run."""
-        number, again = "night: /usr level 0 date {}: 2 blocks\n".format, AGAIN.format
+        number, again = "night: /usr level 0 date {}\n".format, AGAIN.format
         sunday, monday = (timegm((2026, 11, it, 2, 0, 0)) for it in (29, 30))
         ended = "night: /usr level {} date {} ended with status {}\n"
         got = self.dumps(NOWHERE)
@@ -559,7 +543,7 @@ class NightScript(NightCase):
         with serving() as server:
             server.reel("r1")
             got = self.dumps(text_of(server.address), 1)
-            first, found, second = got.told.partition(number(monday).replace("level 0", "level 1").replace("2 blocks", "1 blocks"))
+            first, found, second = got.told.partition(number(monday).replace("level 0", "level 1"))
             self.same("two dumps", (first.startswith(number(sunday)), first.count("to restore: "), bool(found)), (True, 1, True), got)
             self.holds("the second fails", second.endswith(ended.format(1, monday, 3) + again(1)), got)
 
@@ -608,34 +592,45 @@ class NightScript(NightCase):
             got = self.dumps(text_of(server.address))
             self.same("the checkpoint is removed", (got.status, "dump complete" in got.output, self.left()), (DONE, True, []), got)
 
-    def test_numbers_of_blocks(self) -> None:
-        """After each dump the folder has the number of blocks of each entry, and no others."""
+    def test_catalog(self) -> None:
+        """After each dump the catalog has all volumes of each entry. A dump that is continued without a volume began once."""
         with serving() as server:
             for day, level in ((29, 0), (30, 1), (30, 2)):
                 server.reel(f"{day} {level}")
-                self.numbers(f"a dump of level {level}", f"2026-11-{day} 0{level + 2}:00", text_of(server.address), server.bin, level)
+                self.is_kept(f"a dump of level {level}", f"2026-11-{day} 0{level + 2}:00", text_of(server.address), server.bin, level)
             server.reel("another")
             (self.tree / "file").write_bytes(bytes(2 * LONG))
-            self.numbers("another of level 0", "2026-12-06 02:00", text_of(server.address), server.bin, 0)
+            self.is_kept("another of level 0", "2026-12-06 02:00", text_of(server.address), server.bin, 0)
             set_clock(self.folder / "now", "2026-12-07 02:00")
             self.same("one that is not finished", self.dumps(NOWHERE, 1).status, ABNORMAL)
-            self.same("it is in no file", "2026-12-07" in self.entries(server.bin), False)
             for it in ("going on", "after it"):
                 server.reel(it)
-            self.numbers("it goes on, before one of level 2", "2026-12-08 02:00", text_of(server.address), server.bin, 2)
+            self.is_kept("it goes on, before one of level 2", "2026-12-08 02:00", text_of(server.address), server.bin, 2)
+        begun = re.findall(r"(?m)^begun .* level (\d) ", (self.place / "catalog").read_text())
+        self.same("what has begun", begun, [*"012012"])
 
-    def numbers(self, title: str, when: str, to: str, reels: Path, level: int) -> None:
-        """Dumps at a time. The numbers of blocks are those at which the reels of the entries end."""
+    def is_kept(self, title: str, when: str, to: str, reels: Path, level: int) -> None:
+        """Dumps at a time. The catalog has each entry, and each of its reels."""
         set_clock(self.folder / "now", when)
         got = self.dumps(to, level)
         self.same(title, (got.status, self.left()), (DONE, []), got)
-        found = re.findall(r"^(.* level \d date \d+): volumes 1 to \d+, ends at block (\d+)$", self.entries(reels), re.M)
-        wanted = sorted(f"{dump}: {end} blocks" for dump, end in found)
-        self.same(f"{title}: the numbers", sorted((self.place / "blocks").read_text().splitlines()), wanted, got)
-        self.holds(f"{title}: each entry has one", len(found) == len((self.place / "dumpdates").read_text().splitlines()), found)
+        words = (str(reels), "--dumpdates", str(self.place / "dumpdates"), "--catalog", str(self.place / "catalog"))
+        listed = run(self.folder, built("rdump"), "ls", *words)
+        _, entries, dumps = listed.output.split("\n\n")
+        whole = [it for it in dumps.splitlines() if it.endswith(": all volumes")]
+        lacking = [it for it in entries.splitlines() if not any(dump.startswith(it.partition("): ")[0]) for dump in whole)]
+        self.same(f"{title}: all volumes of each entry", (listed.status, lacking, entries == ""), (DONE, [], False), listed)
 
-    def entries(self, reels: Path) -> str:
-        return run(self.folder, built("rdump"), "ls", str(reels), "--dumpdates", str(self.place / "dumpdates")).output
+    def test_bad_catalog(self) -> None:
+        """Nothing is dumped if the catalog is none."""
+        with serving() as server:
+            server.reel("r1")
+            (self.place / "catalog").write_text("hello\n")
+            got = self.dumps(text_of(server.address))
+            self.same("it is no catalog", (got.status, "catalog: it is no catalog" in got.told, [*server.bin.iterdir()]), (1, True, []), got)
+            (self.place / "catalog").unlink()
+            set_clock(self.folder / "now", "2026-11-30 02:00")
+            self.same("it is away", self.dumps(text_of(server.address)).status, DONE)
 
 
 # The nights. All below runs on a machine of its own.
@@ -752,6 +747,11 @@ def shelf() -> dict[str, list[str]]:
     return {it.name: sorted(reel.name for reel in it.iterdir()) for it in sorted(SHELF.iterdir())}
 
 
+def days() -> list[str]:
+    """The days of the shelf's folders."""
+    return [it.removesuffix("-%2Fusr") for it in shelf()]
+
+
 def held(folder: Path) -> dict[str, bytes]:
     """The files of a folder."""
     return {it.name: it.read_bytes() for it in sorted(folder.iterdir())}
@@ -856,7 +856,7 @@ class Nights(Case):
         self.tuesday(cron, tree)
         self.wednesday(cron)
         mail = cron.run("2026-12-03 09:00")
-        self.same("a morning without a dump: its mail", (mail.status, "no reel was found" in mail.text), (1, True), mail)
+        self.same("a morning without a dump: its mail", mail, Mail(f"to-shelf: {TAKEN}/usr: no dump came\n", 1))
         self.restored(tree)
         self.months(cron)
         cron.stop()
@@ -872,10 +872,10 @@ class Nights(Case):
         self.same("night 1: no payload stays", left, [])
         self.same("night 1: it is entered", dumpdates(), "/usr                             0 Sun Nov 29 02:00:00 2026\n")
         self.same("night 1: the server has the entries", (TAKEN / "usr").read_text(), dumpdates())
-        self.same("night 1: the server has the numbers of blocks", (TAKEN / "usr.blocks").read_text(), (CLIENT / "blocks").read_text())
+        self.same("night 1: the server has the catalog", (TAKEN / "usr.catalog").read_text(), (CLIENT / "catalog").read_text())
         self.same("morning 1: no mail", cron.run("2026-11-29 09:00"), Mail("", DONE))
-        self.same("morning 1: the shelf", (shelf(), list(BIN.iterdir())), ({"2026-11-29": ["2026-11-29-001"]}, []))
-        self.same("morning 1: a reel may only be read", (SHELF / "2026-11-29/2026-11-29-001").stat().st_mode & 0o777, 0o400)
+        self.same("morning 1: the shelf", (shelf(), list(BIN.iterdir())), ({"2026-11-29-%2Fusr": ["2026-11-29-001"]}, []))
+        self.same("morning 1: a reel may only be read", (SHELF / "2026-11-29-%2Fusr/2026-11-29-001").stat().st_mode & 0o777, 0o400)
 
     def monday(self, cron: Crontabs, tree: Path) -> None:
         """The server is down at the start, and comes back."""
@@ -890,7 +890,7 @@ class Nights(Case):
         entry = "/usr                             1 Mon Nov 30 02:00:00 2026\n"
         self.holds("night 2: a second level", entry in dumpdates(), dumpdates())
         mail = cron.run("2026-11-30 09:00")
-        self.same("morning 2", (mail, shelf().get("2026-11-30")), (Mail("", DONE), ["2026-11-29-002"]), shelf())
+        self.same("morning 2", (mail, shelf().get("2026-11-30-%2Fusr")), (Mail("", DONE), ["2026-11-29-002"]), shelf())
 
     def tuesday(self, cron: Crontabs, tree: Path) -> None:
         """Reels of a million bytes, and one too few of them."""
@@ -909,7 +909,8 @@ class Nights(Case):
         found = (kept.count("\ncounted "), "\nlevel 1\n" in kept, (CLIENT / "payload").exists())
         self.same("night 3: two volumes are kept", found, (2, True, True), kept)
         mail = cron.run("2026-12-01 09:00")
-        self.same("morning 3: two reels", (len(shelf()["2026-12-01"]), list(BIN.iterdir())), (2, []), mail, shelf())
+        self.same("morning 3: two reels", (len(shelf()["2026-12-01-%2Fusr"]), list(BIN.iterdir())), (2, []), mail, shelf())
+        self.same("morning 3: they are no whole dump", mail, Mail(f"to-shelf: {TAKEN}/usr: no dump came\n", 1))
 
     def wednesday(self, cron: Crontabs) -> None:
         """Tuesday's dump comes to its end first, with its own date."""
@@ -931,32 +932,31 @@ class Nights(Case):
         mail = cron.run("2027-02-07 02:00")
         self.same("week 2: level 0", mail.status, DONE, mail)
         cron.run("2027-02-07 09:00")
-        self.same("what is older than 60 days goes, and not what is built on", [*shelf()], ["2026-11-29", "2026-12-02", "2027-02-07"])
+        self.same("what is older than 60 days goes, and not what is built on", days(), ["2026-11-29", "2026-12-02", "2027-02-07"])
         cron.run("2027-02-08 01:00")
         cron.run("2027-02-08 02:00")
         mail = cron.run("2027-02-08 09:00")
-        self.same("the whole first week goes", [*shelf()], ["2027-02-07", "2027-02-08"], mail)
-        got = rdump("ls", *(str(SHELF / it) for it in shelf()), "--dumpdates", str(CLIENT / "dumpdates"))
+        self.same("the whole first week goes", days(), ["2027-02-07", "2027-02-08"], mail)
+        got = rdump("ls", *(str(SHELF / it) for it in shelf()), "--dumpdates", str(CLIENT / "dumpdates"), "--catalog", str(CLIENT / "catalog"))
         self.same("each entry has its volumes", got.status, DONE, got)
         # The reel of level 0 is gone: nothing goes, though a dump comes in the place of the old level 1.
-        empty(SHELF / "2027-02-07")
+        empty(SHELF / "2027-02-07-%2Fusr")
         for when in ("2027-06-01 01:00", "2027-06-01 02:00"):
             cron.run(when)
         mail = cron.run("2027-06-01 09:00")
-        found = ("no volume" in mail.text, "no dump came" in mail.text, "nothing is removed" in mail.text, "2027-02-08" in shelf())
+        found = ("no volume" in mail.text, "no dump came" in mail.text, "nothing is removed" in mail.text, "2027-02-08" in days())
         self.same("nothing goes where a volume is missing", found, (True, False, True, True), mail, shelf())
 
     def restored(self, tree: Path) -> None:
         """The tree that was dumped comes back from the reels of level 0 and those of the last level 1."""
         wanted = {"monday": (tree / "monday").read_bytes(), "tuesday": (tree / "tuesday").read_bytes()}
-        got = rdump("ls", *(str(SHELF / it) for it in shelf()), "--dumpdates", str(CLIENT / "dumpdates"))
-        self.same("the shelf has each entry's volumes", got.status, DONE, got)
-        dumps = dict(re.findall(r"^\S+ level (\d) (date \d+: volumes 1 to \d+, ends at block \d+)$", got.output, re.M))
         back = Path("/mnt/back")
         back.mkdir()
         for level in "01":
-            date, *_, blocks = re.findall(r"\d+", dumps[level])
-            payload = cat(int(blocks) * BLOCK, "--fs", "/usr", "--level", level, "--date", date, *(str(SHELF / it) for it in shelf()))
+            # The next level's base is the last dump of this one.
+            date = rdump("dates", "--file", str(TAKEN / "usr"), "--name", "/usr", "--level", str(int(level) + 1)).output.strip()
+            words = ("--fs", "/usr", "--level", level, "--date", date, *(str(SHELF / it) for it in shelf()))
+            payload = cat_with("--catalog", str(TAKEN / "usr.catalog"), *words)
             self.same(f"level {level} comes back", (payload.told, payload.status), (b"", DONE))
             subprocess.run(("tar", "-x", "-C", str(back), "-f", "-"), input=payload.output, check=True, stderr=subprocess.DEVNULL)
         for name, data in wanted.items():
@@ -981,20 +981,27 @@ class Nights(Case):
         self.same("no socket of the listener", Path(LISTENER).exists(), False)
 
     def takes(self) -> None:
-        """The command of the key takes entries, and the numbers of blocks after them. What is anything else changes nothing."""
+        """The command of the key takes entries, and the catalog after them. What is anything else changes nothing."""
         entry = b"/usr                             0 Tue Feb 29 00:00:00 2000\n"
-        numbers = b"/usr level 0 date 951782400: 8 blocks\n/usr level 1 date 951868800: 1 blocks\n"
+        dump = b"/usr level 0 date 951782400 since 0"
+        begun = b"begun     %s: 8192 bytes\n" % dump
+        volume = b"%s  %s volume 1 first 0, 8 blocks of 1024 bytes, 9292 bytes\n" % (b"0" * 64, dump)
+        finished = b"finished  %s: 1 volumes, 8 blocks of 1024 bytes, 8192 bytes\n" % dump
+        catalog = begun + volume + finished
         for title, sent, taken in (
-            ("entries and numbers", entry + numbers, (entry, numbers)),
-            ("entries alone: the numbers stay", entry, (entry, numbers)),
-            ("an entry, and numbers", entry * 2 + numbers, (entry * 2, numbers)),
-            ("a zero byte after them", entry + numbers + b"\0", None),
+            ("entries and a catalog", entry + catalog, (entry, catalog)),
+            ("entries alone: the catalog stays", entry, (entry, catalog)),
+            ("a longer catalog", entry * 2 + catalog + begun, (entry * 2, catalog + begun)),
+            ("a catalog before the entries", catalog + entry, (entry, catalog)),
+            ("the last line has no end", entry + catalog[:-1], (entry, catalog)),
+            ("a zero byte after them", entry + catalog + b"\0", None),
             ("zero bytes", bytes(1000), None),
             ("nothing", b"", None),
-            ("numbers alone", numbers, None),
+            ("a catalog alone", catalog, None),
             ("a bad line", entry + b"hello\n", None),
-            ("a part of a number's line", entry + numbers[:-3], None),
-            ("a bad line among numbers", entry + b"hello\n" + numbers, None),
+            ("a part of a catalog's line", entry + catalog[:-3], None),
+            ("a bad line among the catalog's", entry + begun + b"hello bytes\n" + volume, None),
+            ("a bad line among them", entry + begun + b"hello\n" + volume, None),
         ):
             before = held(TAKEN)
             got = subprocess.run(
@@ -1005,7 +1012,7 @@ class Nights(Case):
                 timeout=GUARD_SECONDS,
                 check=False,
             )
-            wanted = {"usr": taken[0], "usr.blocks": taken[1]} if taken else before
+            wanted = {"usr": taken[0], "usr.catalog": taken[1]} if taken else before
             self.same(f"{title}: what is taken", (got.returncode == 0, held(TAKEN)), (taken is not None, wanted), got)
 
     def forwards(self) -> None:

@@ -23,7 +23,7 @@ from typing import Iterator, NamedTuple
 from tests.checks.night import NightCase, run
 from tests.lib import machines
 from tests.lib.case import random_seed
-from tests.lib.cats import cat
+from tests.lib.cats import cat_with
 from tests.lib.connections import NOWHERE, text_of
 from tests.lib.ended import DONE, Ended
 from tests.lib.given import given
@@ -45,7 +45,7 @@ MODIFIED = 2
 HOLES = "for k in 1 2 3 4 5; do for t in 1 500 1023 1025; do seq 9999 | head -c $((k * 1024)) > hole.$k.$t; truncate -s +$t hole.$k.$t; done; done"
 STEPS = (1, 2, 3, 5, 15)
 # So many of the commands above a night calls at level 0 and at level 1, with those that `unattended` calls.
-CALLS = (25, 25)
+CALLS = (18, 18)
 
 # It does what the program of its name does, and at the call of a number kills the script, or all that the script started.
 KILLS = """#!/bin/sh
@@ -122,10 +122,9 @@ class TreeCase(NightCase):
 
     def payload(self, level: int) -> Path:
         """The payload of the last dump of a level that is entered, as its reel has it."""
-        entries = run(self.folder, built("rdump"), "ls", str(self.server.bin), "--dumpdates", str(self.place / "dumpdates")).output
-        date = re.findall(rf"(?m)^/usr level {level} date (\d+): volumes", entries)[0]
-        reel, blocks, size = re.findall(rf"(?m)^(.*): /usr level {level} date {date} .*, (\d+) blocks of (\d+) bytes, .*: whole$", entries)[-1]
-        got = cat(int(blocks) * int(size), reel)
+        words = ("--file", str(self.place / "dumpdates"), "--name", "/usr", "--level", str(level + 1))
+        date = run(self.folder, built("rdump"), "dates", *words).output.strip()
+        got = cat_with("--catalog", str(self.place / "catalog"), "--level", str(level), "--date", date, str(self.server.bin))
         self.same(f"level {level} comes back", (got.told, got.status), (b"", DONE))
         out = self.folder / f"back.{level}"
         out.write_bytes(got.output)
@@ -160,6 +159,11 @@ class TreeCase(NightCase):
         words = ("sh", "-c", 'GROUP=$$ exec "$@"', "sh", NIGHT, str(level), "/usr", str(self.tree), str(self.place))
         quiet = subprocess.DEVNULL
         return subprocess.run(words, env=variables, stdin=quiet, stdout=quiet, stderr=quiet, start_new_session=True, check=False).returncode
+
+    def anew(self) -> None:
+        """Takes away all that was dumped, and what the script keeps. Other dumps have the same dates."""
+        for it in (it for folder in (self.place, self.server.bin, self.server.stacks[0]) for it in folder.iterdir()):
+            it.unlink()
 
     def free(self) -> None:
         """Waits until nothing has the folder's lock."""
@@ -220,8 +224,7 @@ class Levels(TreeCase):
             self.done(f"{title}: level 1", 2, 1)
             self.restored(title, 0, 1)
             shutil.rmtree(self.folder / "outside", ignore_errors=True)
-            for it in self.place.iterdir():
-                it.unlink()
+            self.anew()
 
     def test_random_trees(self) -> None:
         """Trees that change at random are restored from three levels."""
@@ -234,8 +237,7 @@ class Levels(TreeCase):
                 if level < 2:
                     changes.some(changes.random.choice(STEPS))
             self.restored(f"seed {seed + number}", 0, 1, 2)
-            for it in self.place.iterdir():
-                it.unlink()
+            self.anew()
 
     def test_attributes(self) -> None:
         """Capabilities, access lists, other attributes, owners and holes come back from each level."""
@@ -481,8 +483,7 @@ class Kills(TreeCase):
 
     def is_killed(self, title: str, level: int, at: int, is_all: bool, is_after: bool) -> None:
         """The script is killed at this call. The nights after it leave nothing out."""
-        for it in (it for folder in (self.place, self.server.bin, self.server.stacks[0]) for it in folder.iterdir()):
-            it.unlink()
+        self.anew()
         shutil.rmtree(self.tree)
         self.tree.mkdir()
         self.comes("first")
@@ -542,7 +543,7 @@ class Commands(TreeCase):
         for day, (level, since, kept) in enumerate(((0, 0, ""), (1, base[0], "0\n"), (2, base[1], "0\n1\n"), (1, base[0], "0\n")), 1):
             self.done(f"level {level}", day, level, *self.command(shows))
             wanted = f"{level} /usr {since}\n{kept}{self.place}\n".encode()
-            self.same(f"level {level}: the payload", self.payload(level).read_bytes().rstrip(b"\0"), wanted)
+            self.same(f"level {level}: the payload", self.payload(level).read_bytes(), wanted)
         names = [it.name for it in self.place.glob("snapshot.*")]
         self.same("one snapshot a level", sorted(it.split(".")[1] for it in names), ["0", "1", "2"], names)
         self.stops("the base of tar is none of another command", self.night(5, 1), "the snapshot of the base, is missing")

@@ -28,6 +28,7 @@ from tests.lib.servers import at_drive
 from tests.lib.shimmed import (
     ABANDONED,
     ASKED,
+    BLOCK,
     CAPACITY,
     DATED,
     KEPT,
@@ -48,9 +49,9 @@ from tests.lib.shimmed import (
     left,
 )
 from tests.lib.wire import DEVICE
+from tests.models.catalog import dump_text
 from tests.models.lawful import NO_MEMORY, History, empty, reels_of
 from tests.models.rmtd import images
-from tests.models.sums import line_of
 
 S = TypeVar("S")
 
@@ -390,29 +391,35 @@ class KeptDump(NamedTuple):
         return got.output.decode().startswith(begun) and self.is_right(got, got.status != DONE)
 
 
-# What a dump leaves, and the text of its sums file.
-Summed = tuple[Left, bytes]
-NO_SUMS, UNSUMMED = b"sums not complete\n", rb"^rdump: \S+: out of memory: add this line:\n([0-9a-f]{64}  [^\n]+\n)"
+# What a dump leaves, and the text of its catalog.
+Cataloged = tuple[Left, bytes]
+NOT_COMPLETE, UNENTERED = b"catalog not complete\n", rb"^rdump: \S+: out of memory: add this line:\n([0-9a-f]{64}  [^\n]+\n)"
+THREE_LINES = dump_text(THREE_BLOCKS.reels(), len(THREE_BLOCKS.data()), BLOCK)
 
 
-def over_sums(p: ShimmedPrograms, rules: str) -> Ran[Summed]:
-    """A dump of three blocks with a sums file. What is left is what a dump leaves, and the text of that file."""
+def with_catalog(p: ShimmedPrograms, rules: str) -> Ran[Cataloged]:
+    """A dump of three blocks with a catalog. What is left is what a dump leaves, and the text of that file."""
     with dump_site(p, THREE_BLOCKS) as (folder, words):
-        file = folder / "sums"
-        got = p.run((*words, "--sums", str(file), *DATED), rules)
+        file = folder / "catalog"
+        got = p.run((*words, "--catalog", str(file), *DATED), rules)
         return got.leaving((left(folder), file.read_bytes() if file.exists() else b""))
 
 
-def sums_are_right(got: Ran[Summed], more: bool) -> bool:
-    """It took a lawful course. Each count has its line in the file, or on standard error, where it is said that the sums are not complete."""
-    lines, (stands, text) = [*map(line_of, THREE_BLOCKS.reels())], got.left
-    unsummed, went = re.findall(UNSUMMED, got.told, re.M), course(THREE_BLOCKS, got.output, 0)
-    if went is None or went.faults not in ((), ("OutOfMemory",)) or (NO_SUMS in got.told) != bool(unsummed):
+def catalog_is_right(got: Ran[Cataloged], more: bool) -> bool:
+    """It took a lawful course. It began in the file. Each count has its line there, or on standard error, and the dump is finished there once it is
+    complete, or it is said that the catalog is not complete."""
+    (began, *lines, done), (stands, text) = THREE_LINES.splitlines(keepends=True), got.left
+    unentered, went = re.findall(UNENTERED, got.told, re.M), course(THREE_BLOCKS, got.output, 0)
+    if went is None or went.faults not in ((), ("OutOfMemory",)):
         return False
-    refused = len(went.faults) + (went.end == "not entered") + len(unsummed)
-    has_all = {*text.splitlines(keepends=True), *unsummed} == {*lines[: went.counted]}
+    had, is_ended = text.splitlines(keepends=True), went.end in ("complete", "not entered")
+    is_unfinished = is_ended and done not in had
+    if (NOT_COMPLETE in got.told) != (bool(unentered) or is_unfinished) or (bool(unentered) and done in had):
+        return False
+    refused = len(went.faults) + (went.end == "not entered") + (len(unentered) or is_unfinished)
+    has_all = {*had, *unentered} == {began, *lines[: went.counted], *[done] * (is_ended and not is_unfinished)} and len({*had}) == len(had)
     right = Dump(THREE_BLOCKS, 0).left(went.counted, went.end == "complete")
-    status = ABNORMAL if unsummed else went.status()
+    status = ABNORMAL if NOT_COMPLETE in got.told else went.status()
     return (got.status, stands) == (status, right) and has_all and (refused >= 1 if more else refused == 1)
 
 
@@ -448,18 +455,20 @@ class Dumps(RefusedCase):
     def test_three_blocks_tried_again(self) -> None:
         self.dumps(Dump(THREE_BLOCKS, 1))
 
-    def test_sums_file(self) -> None:
-        """A dump with a sums file: where a line cannot be entered it is told whole, and the dump goes on."""
-        title, lines = "a dump with a sums file", b"".join(map(line_of, THREE_BLOCKS.reels()))
-        self.well(title, over_sums(self.p, ""), (DONE, THREE_BLOCKS.printed(), (Dump(THREE_BLOCKS, 0).left(2, True), lines)))
+    def test_catalog(self) -> None:
+        """A dump with a catalog: where the line of a volume cannot be entered it is told whole, and the dump goes on."""
+        title = "a dump with a catalog"
+        self.well(title, with_catalog(self.p, ""), (DONE, THREE_BLOCKS.printed(), (Dump(THREE_BLOCKS, 0).left(2, True), THREE_LINES)))
 
-        def before(got: Ran[Summed]) -> bool:
+        def before(got: Ran[Cataloged]) -> bool:
             if is_named(got):
                 return got.left == (UNTOUCHED, b"")
-            return got.output.decode().startswith(FAILED_START) and sums_are_right(got, got.status != DONE)
+            return got.output.decode().startswith(FAILED_START) and catalog_is_right(got, got.status != DONE)
 
-        came = self.swept(Sweep(title, 170, "connect", lambda rules: over_sums(self.p, rules), before, sums_are_right))
-        self.holds(f"{title}: some lines are told", any(NO_SUMS in it.told for it in came), len(came))
+        came = self.swept(Sweep(title, 170, "connect", lambda rules: with_catalog(self.p, rules), before, catalog_is_right))
+        self.holds(f"{title}: some lines are told", any(re.search(UNENTERED, it.told, re.M) for it in came), len(came))
+        unfinished = [it for it in came if NOT_COMPLETE in it.told and not re.search(UNENTERED, it.told, re.M)]
+        self.holds(f"{title}: some are not finished", unfinished, len(came))
 
 
 class KeptDumps(RefusedCase):
@@ -495,11 +504,11 @@ def tells_memory(got: Ran[object]) -> bool:
 class OverFiles(RefusedCase):
     """Commands of the client that read files alone."""
 
-    def test_reels_compared_with_a_sums_file(self) -> None:
+    def test_reels_compared_with_a_catalog(self) -> None:
         reels = dict(zip(("r1", "r2"), THREE_BLOCKS.reels()))
         with folders(**reels) as folder:
-            folder.joinpath("sums").write_bytes(b"".join(map(line_of, reels.values())))
-            words = (self.p.rdump, "ls", "--sums", str(folder / "sums"), str(folder / "st0"))
+            folder.joinpath("catalog").write_bytes(THREE_LINES)
+            words = (self.p.rdump, "ls", "--catalog", str(folder / "catalog"), str(folder / "st0"))
             well = self.p.run(words)
             equal = well.status, well.output.count(b": whole, sum equal\n")
             self.same("reels that are compared: with all memory", equal, (DONE, 2), well.shown())

@@ -1,8 +1,8 @@
 """Checks `etc/to-shelf` with the built `rdump`: which reels it moves to the shelf, which folders it removes from it, and what it prints.
 
-The reels are record files that this file makes, and the entries are those of a client. The clock is a `date` that comes first in PATH. A disk
-that is full is a small one of memory, which root mounts for the shelf, and a run that is killed while it copies is killed by a `cp` that comes
-first in PATH.
+The reels are record files that this file makes, and so are the entries and the catalogs of the clients. The clock is a `date` that comes first in
+PATH. A disk that is full is a small one of memory, which root mounts for the shelf, and a run that is killed while it copies is killed by a `cp`
+that comes first in PATH.
 """
 
 from __future__ import annotations
@@ -20,10 +20,12 @@ from typing import Callable, NamedTuple
 from tests.checks.night import Mail
 from tests.lib.case import Case
 from tests.lib.ended import DONE
-from tests.lib.listings import Label
+from tests.lib.listings import Label, dump_words, utc
 from tests.lib.places import TOP, built
 from tests.lib.unattended import TO_SHELF, moved_clock, set_clock
 from tests.lib.waiting import GUARD_SECONDS
+from tests.models.found import Dump as DumpId
+from tests.models.found import begun_line, finished_line, volume_line
 from tests.models.rmtd import images
 
 BLOCK = 1024
@@ -33,6 +35,9 @@ GOOD = Mail("", DONE)
 # The clock at an old dump, at the new one in its place, and later than that by more than the 60 days for which all stays.
 FIRST, OLD, NEW, LATER = "2026-11-01 02:00", "2026-11-02 02:00", "2027-02-07 02:00", "2027-06-01 02:00"
 
+# Odd names of dumps.
+NAMES = ("/usr", "/usr.*", "[/usr]", "ann:/usr", "a|/usr\\\\", "/", "//usr", "%2Fusr", "-x", "..", "$(false)`false`'\"", "x:")
+
 # It copies a part, and kills the script that started it.
 KILLING_CP = '#!/bin/sh\nfor it; do from=$to to=$it; done\nhead -c 100 "$from" > "$to"\nkill -KILL $PPID\n'
 
@@ -41,9 +46,14 @@ def seconds_of(when: str) -> int:
     return timegm(time.strptime(when, "%Y-%m-%d %H:%M"))
 
 
-def folder_of(when: str) -> str:
-    """The shelf's folder of a day."""
-    return when.split(" ")[0]
+def folder_of(when: str, name: str = "%2Fusr") -> str:
+    """The shelf's folder of a day and a name."""
+    return f"{when.split(' ')[0]}-{name}"
+
+
+def encoded(name: str) -> str:
+    """The name of a dump as a part of the name of a folder."""
+    return name.replace("%", "%25").replace("/", "%2F")
 
 
 class Dump(NamedTuple):
@@ -55,32 +65,41 @@ class Dump(NamedTuple):
     since: str | None = None
     name: str = "/usr"
 
+    def id(self) -> DumpId:
+        return DumpId(self.name, self.level, seconds_of(self.when), seconds_of(self.since) if self.since else 0)
+
     def reels(self) -> dict[str, bytes]:
         """Its reels by their names, with as many blocks each as a reel has room for."""
         found = {}
         for volume, first in enumerate(range(0, self.blocks, MOST), 1):
-            label = Label(self.name, self.level, seconds_of(self.when), seconds_of(self.since) if self.since else 0, volume, first)
+            label = Label(*self.id(), volume, first)
             blocks = [self.block(at) for at in range(first, min(first + MOST, self.blocks))]
-            found[f"{folder_of(self.when)}-{volume}"] = images([label.record(), *blocks, None])
+            found[f"{self.when.split(' ')[0]}-{volume}"] = images([label.record(), *blocks, None])
         return found
 
     def block(self, number: int) -> bytes:
-        return f"{self.when} {number}".encode().ljust(BLOCK, b".")
+        return f"{self.name} {self.when} {number}".encode().ljust(BLOCK, b".")
 
     def payload(self) -> bytes:
         return b"".join(map(self.block, range(self.blocks)))
 
     def entry(self) -> str:
         """Its line of a dumpdates file."""
-        return time.strftime(f"{self.name:<32} {self.level} %a %b %e %H:%M:%S %Y\n", time.gmtime(seconds_of(self.when)))
+        return f"{self.name:<32} {self.level} " + time.strftime("%a %b %e %H:%M:%S %Y\n", time.gmtime(seconds_of(self.when)))
 
-    def number(self) -> str:
-        """Its line of the file with the numbers of blocks."""
-        return f"{self.name} level {self.level} date {seconds_of(self.when)}: {self.blocks} blocks\n"
+    def lines(self, volumes: int | None = None) -> bytes:
+        """Its lines of a catalog. It finished with so many volumes, or with all."""
+        reels = self.reels().values()
+        end = finished_line(self.id(), len(reels) if volumes is None else volumes, self.blocks, BLOCK, self.blocks * BLOCK)
+        return b"".join((begun_line(self.id(), self.blocks * BLOCK), *map(volume_line, reels), end))
+
+    def named(self) -> str:
+        """It, as the messages name it."""
+        return dump_words(*self.id())
 
 
 class ShelfCase(Case):
-    """Tests of the script, with a bin, a shelf and a client's files that are empty at the start of each test."""
+    """Tests of the script, with a bin, a shelf and clients' files that are empty at the start of each test."""
 
     def setUp(self) -> None:
         self.begin()
@@ -94,6 +113,7 @@ class ShelfCase(Case):
         self.programs = self.folder / "programs"
         moved_clock(self.programs, self.folder / "now", FIRST)
         (self.programs / "rdump").symlink_to(built("rdump"))
+        self.client, self.catalog = self.clients / "usr", self.clients / "usr.catalog"
 
     def came(self, *dumps: Dump) -> None:
         """The reels of these dumps come into the bin."""
@@ -101,16 +121,19 @@ class ShelfCase(Case):
             for name, data in dump.reels().items():
                 (self.bin / name).write_bytes(data)
 
-    def entered(self, *dumps: Dump) -> None:
-        """The client's files come, with the entries of these dumps and no others."""
-        (self.clients / "usr").write_text("".join(it.entry() for it in dumps))
-        (self.clients / "usr.blocks").write_text("".join(it.number() for it in dumps))
+    def entered(self, *dumps: Dump, client: str = "usr") -> None:
+        """A client's files come: the entries of these dumps and no others, and a catalog that has these dumps too."""
+        (self.clients / client).write_text("".join(it.entry() for it in dumps))
+        catalog = self.clients / f"{client}.catalog"
+        text = catalog.read_bytes() if catalog.exists() else b""
+        catalog.write_bytes(text + b"".join(it.lines() for it in dumps if it.lines() not in text))
 
     def run_at(self, when: str, days: int = 60) -> Mail:
-        """Runs the script at a time, as cron does. Answers what it prints, and its status."""
+        """Runs the script at a time, as cron does, with each client. Answers what it prints, and its status."""
         set_clock(self.folder / "now", when)
+        clients = sorted(str(self.clients / it) for it in {it.name.removesuffix(".catalog") for it in self.clients.iterdir()})
         ran = subprocess.run(
-            (TO_SHELF, str(self.bin), str(self.shelf), str(days), str(self.clients / "usr")),
+            (TO_SHELF, str(self.bin), str(self.shelf), str(days), *clients),
             env={**os.environ, "PATH": f"{self.programs}:{os.environ['PATH']}", "TMPDIR": str(self.folder)},
             stdin=subprocess.DEVNULL,
             stdout=subprocess.PIPE,
@@ -132,6 +155,10 @@ class ShelfCase(Case):
         """The names in each folder of the shelf."""
         return {it.name: sorted(reel.name for reel in it.iterdir()) for it in sorted(self.shelf.iterdir()) if it.is_dir()}
 
+    def alarm(self, *names: str) -> Mail:
+        """The mail of a morning on which all is well, but that no dump of these clients came."""
+        return Mail("".join(f"to-shelf: {self.clients / it}: no dump came\n" for it in names), 1)
+
     def stays(self, title: str, mail: Mail, *facts: str) -> None:
         """The old dump's folder is as it was, and the mail says why, with these facts."""
         self.same(f"{title}: the old dump stays", self.held().get(folder_of(OLD)), [*Dump(OLD).reels()], mail)
@@ -151,13 +178,23 @@ class WhatIsRemoved(ShelfCase):
 
     def test_what_is_built_on(self) -> None:
         base, old, new = Dump(FIRST), Dump(OLD, level=1, since=FIRST), Dump(NEW)
-        self.came(base, old)
+        self.came(base)
+        self.entered(base)
+        self.same("a base: no mail", self.run_at(FIRST), GOOD)
+        self.came(old)
         self.entered(base, old)
         self.same("two levels: no mail", self.run_at(OLD), GOOD)
         self.came(new)
         self.entered(new, old)
         self.same("a new level 0: no mail", self.run_at(NEW), GOOD)
-        self.same("a new level 0: what level 1 builds on stays", [*self.held()], [folder_of(OLD), folder_of(NEW)])
+        self.same("a new level 0: what level 1 builds on stays", [*self.held()], [folder_of(it) for it in (FIRST, OLD, NEW)])
+        # The base is not entered any more, but level 1 is nothing without it.
+        name = [*base.reels()][0]
+        (self.shelf / folder_of(FIRST) / name).rename(self.folder / name)
+        mail = self.run_at(NEW)
+        told = (f"{base.named()}: missing: volume 1\n" in mail.text, "nothing is removed" in mail.text)
+        self.same("a volume of the base is missing", (mail.status, told), (1, (True, True)), mail)
+        (self.folder / name).rename(self.shelf / folder_of(FIRST) / name)
         later = Dump("2027-02-08 02:00", level=1, since=NEW)
         self.came(later)
         self.entered(new, later)
@@ -170,11 +207,9 @@ class WhatIsRemoved(ShelfCase):
         self.old_and_new(old, new)
         self.same("a month later: no mail", self.run_at(new.when), GOOD)
         self.same("a month later: both stay", [*self.held()], [folder_of(OLD), folder_of(new.when)])
-        self.came(Dump("2027-01-01 02:00", name="/home"))
-        self.same("two months later: no mail", self.run_at("2027-01-01 02:00"), GOOD)
+        self.same("two months later: no dump came", self.run_at("2027-01-01 02:00"), self.alarm("usr"))
         self.same("two months later: the old dump stays", folder_of(OLD) in self.held(), True)
-        self.came(Dump("2027-01-02 02:00", name="/home"))
-        self.same("a day later: no mail", self.run_at("2027-01-02 02:00"), GOOD)
+        self.same("a day later: no dump came", self.run_at("2027-01-02 02:00"), self.alarm("usr"))
         self.same("a day later: it goes", folder_of(OLD) in self.held(), False)
 
     def test_last_volume_is_missing(self) -> None:
@@ -183,61 +218,69 @@ class WhatIsRemoved(ShelfCase):
         self.old_and_new(Dump(OLD), new)
         names = [*new.reels()]
         (self.bin / names[2]).rename(self.folder / names[2])
-        mail = self.run_at(NEW)
-        self.stays("the last volume is missing", mail, f"date {seconds_of(NEW)}: volumes 1 to 2, ends at block 4", "6 blocks")
-        (self.shelf / folder_of(NEW) / names[1]).unlink()
-        self.came(Dump("2027-02-08 02:00", name="/home"))
-        mail = self.run_at("2027-02-08 02:00")
-        self.stays("the last two are missing", mail, f"date {seconds_of(NEW)}: volumes 1 to 1, ends at block 2", "6 blocks")
-        (self.bin / names[1]).write_bytes(new.reels()[names[1]])
-        (self.folder / names[2]).rename(self.bin / names[2])
+        self.stays("the last volume is missing", self.run_at(NEW), f"{new.named()}: missing: volume 3")
+        (self.shelf / folder_of(NEW) / names[1]).rename(self.folder / names[1])
+        self.stays("the last two are missing", self.run_at("2027-02-08 02:00"), "missing: volumes 2 to 3", "no dump came")
+        (self.shelf / folder_of(NEW) / names[0]).rename(self.folder / names[0])
+        self.stays("no volume is there", self.run_at("2027-02-08 02:00"), f"date {utc(seconds_of(NEW))}: no volume: no reel")
+        for it in names:
+            (self.folder / it).rename(self.bin / it)
         self.same("they come: no mail", self.run_at("2027-02-09 02:00"), GOOD)
         self.same("they come: the old dump goes", folder_of(OLD) in self.held(), False)
 
-    def test_first_volumes_are_missing(self) -> None:
-        new = Dump(NEW, 6)
-        self.old_and_new(Dump(OLD), new)
-        names = [*new.reels()]
-        (self.bin / names[1]).unlink()
-        self.stays("a volume in the middle is missing", self.run_at(NEW), "volume 2 is missing")
-        for it in names:
-            (self.shelf / folder_of(NEW) / it).unlink(missing_ok=True)
-        self.came(Dump("2027-02-08 02:00", name="/home"))
-        self.stays("no volume is there", self.run_at("2027-02-08 02:00"), "no volume")
-
     def test_two_clients(self) -> None:
-        """A client sends the name of another one's dump, or a second number for a dump."""
-        self.old_and_new(Dump(OLD), Dump(NEW, 1))
-        self.entered(Dump(OLD), Dump(NEW, 1))
-        self.stays("a second date", self.run_at(NEW), "and another date is entered too")
-        self.begin()
+        """Each client has an alarm of its own, and what one lacks does not keep the reels of another."""
+        old, new = (Dump(when, name="ann:/home*") for when in (OLD, NEW))
         self.old_and_new(Dump(OLD), Dump(NEW))
-        with (self.clients / "usr.blocks").open("a") as file:
-            file.write(Dump(NEW, 6).number())
-        self.stays("a second number", self.run_at(NEW), "more than one number of blocks came")
+        self.came(old)
+        self.entered(old, client="home")
+        self.same("the dump of one came", self.run_at(OLD, 365), GOOD)
+        (self.shelf / folder_of(OLD) / [*Dump(NEW).reels()][0]).unlink()
+        (self.shelf / folder_of(OLD) / [*Dump(NEW).reels()][1]).unlink()
+        self.came(new)
+        self.entered(new, client="home")
+        facts = (f"{self.client}: {it}" for it in ("no dump came", f"/usr level 0 date {utc(seconds_of(NEW))}: no volume"))
+        self.stays("the other one lacks its dump", self.run_at(NEW), *facts)
+        self.same("it goes of the first", [*self.held()], [folder_of(OLD), folder_of(NEW, encoded("ann:/home*"))])
+
+    def test_a_name_of_two_clients(self) -> None:
+        """A client sends the name of another one's dump, in either of its files."""
+        for title, client, catalog in (("an entry", Dump(LATER).entry(), b""), ("a line", "", Dump(LATER).lines())):
+            self.begin()
+            self.old_and_new(Dump(OLD), Dump(NEW))
+            (self.clients / "home").write_text(client)
+            (self.clients / "home.catalog").write_bytes(catalog)
+            self.stays(title, self.run_at(NEW), f"{self.client}: another client has this name too: %2Fusr")
 
     def test_other_folders(self) -> None:
-        """A folder that is not named after a day stays, even if it is empty."""
+        """Other folders stay, even if they are empty, and so do reels of a name that no client has."""
         others = ("1999-my-xx", "keep-me-ok")
         for it in others:
             (self.shelf / it).mkdir()
         self.old_and_new(Dump(OLD), Dump(NEW))
+        opt = Dump(OLD, name="/opt/")
+        self.came(opt)
         self.same("all is well: no mail", self.run_at(NEW), GOOD)
-        self.same("the other folders stay", [*self.held()], [others[0], folder_of(NEW), others[1]])
+        self.same("the other folders stay", [*self.held()], [others[0], folder_of(NEW, encoded("/opt/")), folder_of(NEW), others[1]])
 
-    def test_more_blocks_than_the_dump_has(self) -> None:
-        """The reels are not those of the dump that was entered."""
-        new = Dump(NEW)
-        self.old_and_new(Dump(OLD), new)
-        (self.clients / "usr.blocks").write_text(new._replace(blocks=3).number())
-        self.stays("a block too many", self.run_at(NEW), "ends at block 4", "3 blocks")
+    def test_names(self) -> None:
+        """Whatever a client calls its dumps, each name has a folder of its own, and goes from it."""
+        old, new = ([Dump(when, 1, name=it) for it in NAMES] for when in (OLD, NEW))
+        for dumps in (old, new):
+            for number, dump in enumerate(dumps):
+                (self.bin / f"r{number}").write_bytes([*dump.reels().values()][0])
+            self.entered(*dumps)
+            self.same("no mail", self.run_at(dumps[0].when), GOOD)
+            self.same("a folder for each name", [*self.held()], sorted(folder_of(it.when, encoded(it.name)) for it in dumps))
 
     def test_damaged(self) -> None:
-        """The last reel has no mark, whether it is damaged in the bin or on the shelf."""
+        """The last reel is damaged in the bin or on the shelf."""
         for title, damages in (("no mark", no_mark), ("cut", cut), ("empty", emptied), ("no label", no_label), ("more after the mark", more)):
             for place in ("bin", "shelf"):
                 self.begin()
                 self.damaged(f"{title}, in the {place}", damages, place == "shelf")
+        self.begin()
+        self.damaged("another byte", another_byte, True)
 
     def damaged(self, title: str, damages: Callable[[bytes], bytes], is_shelved: bool) -> None:
         new = Dump(NEW, 6)
@@ -247,66 +290,92 @@ class WhatIsRemoved(ShelfCase):
             # The first run is too early to remove anything.
             self.same(f"{title}: no mail before", self.run_at(NEW, 365), GOOD)
             damaged = self.shelf / folder_of(NEW) / last
-            self.came(Dump("2027-02-08 02:00", name="/home"))
         else:
             damaged = self.bin / last
         damaged.chmod(0o600)
         damaged.write_bytes(damages(damaged.read_bytes()))
+        self.stays(title, self.run_at("2027-02-08 02:00"), f"{damaged}: ", "missing: volume 3")
         mail = self.run_at("2027-02-08 02:00")
-        self.stays(title, mail, f"/{last}: ")
+        self.stays(f"{title}, again", mail, "missing: volume 3")
+        self.same(f"{title}: a reel that the shelf never had whole is named once", f"/{last}: " in mail.text, is_shelved, mail)
 
-    def test_damaged_reel_of_another_dump(self) -> None:
-        """Nothing tells which dump it was of."""
-        new = Dump(NEW)
-        self.old_and_new(Dump(OLD), new)
-        (self.bin / "other").write_bytes(b"")
-        self.stays("an empty reel", self.run_at(NEW), "/other: 0 bytes: empty")
-        # The operator takes it away.
-        (self.shelf / folder_of(NEW) / "other").unlink()
-        self.came(Dump("2027-02-08 02:00", name="/home"))
-        self.same("it is taken away: no mail", self.run_at("2027-02-08 02:00"), GOOD)
-        self.same("it is taken away: the old dump goes", folder_of(OLD) in self.held(), False)
+    def test_what_is_no_volume(self) -> None:
+        """It goes to a folder of its own, and is named once. It keeps nothing from being removed."""
+        self.old_and_new(Dump(OLD), Dump(NEW))
+        (self.bin / "empty").write_bytes(b"")
+        (self.bin / "its own").write_bytes(b"")
+        (self.bin / "tar: x level 0 date 1 since 0: whole").write_bytes(images([b"hello", None]))
+        mail = self.run_at(NEW)
+        other = folder_of(NEW).replace("-%2Fusr", ".other")
+        goes = f"it goes to {self.shelf}/{other}\n"
+        told = [f"to-shelf: {self.bin}/{it}" in mail.text for it in (f"empty: 0 bytes: empty: {goes}", f"its own: 0 bytes: empty: {goes}", "tar: x")]
+        self.same("the mail", (mail.status, told, mail.text.count(goes), mail.text.count("\n")), (1, [True] * 3, 3, 3), mail)
+        wanted = {other: ["empty", "its own", "tar: x level 0 date 1 since 0: whole"], folder_of(NEW): [*Dump(NEW).reels()]}
+        self.same("the old dump goes", self.held(), dict(sorted(wanted.items())))
+        self.same("the next morning", self.run_at("2027-02-08 02:00"), self.alarm("usr"))
+        (self.bin / "empty").write_bytes(b"")
+        mail = self.run_at(NEW)
+        told = [f"{self.shelf}/{other}/empty is there already" in mail.text]
+        self.same("its name is taken", (told, [*self.bin.iterdir()]), ([True], [self.bin / "empty"]), mail)
 
-    def test_number_of_blocks_is_not_known(self) -> None:
-        """A client that tells no numbers: nothing is known to be whole."""
-        new = Dump(NEW)
-        self.old_and_new(Dump(OLD), new)
-        (self.clients / "usr.blocks").unlink()
-        self.stays("no file", self.run_at(NEW), f"date {seconds_of(NEW)}: volumes 1 to 2, ends at block 4", "not known")
-        for title, text in (
-            ("an empty file", ""),
-            ("another date", Dump(OLD).number()),
-            ("another level", new._replace(level=1).number()),
-            ("a part of a line", new.number()[:-3]),
-            ("a name that begins so", new._replace(name="/usr2").number()),
-            ("another word", f"x{new.number()}"),
+    def test_catalogs(self) -> None:
+        """Catalogs that do not have the dump that is entered, whole and finished, or cannot be read."""
+        old, new = Dump(OLD), Dump(NEW)
+        no_line = f"date {utc(seconds_of(NEW))}: volumes 1 to 2, ends at block 4: no reel, or no line of the catalog"
+        lines = new.lines().splitlines(keepends=True)
+        for title, text, fact in (
+            ("no file", None, "No such file"),
+            ("an empty file", b"", no_line),
+            ("another dump", old.lines(), no_line),
+            ("another level", old.lines() + new._replace(level=1).lines(), no_line),
+            ("another client's", new._replace(name="/home").lines(), no_line),
+            ("it is not finished", old.lines() + b"".join(lines[:-1]), f"{new.named()}: not finished"),
+            ("a volume is not there", lines[0] + lines[1] + lines[-1], "missing: volume 2"),
+            ("it has more volumes", new.lines(3), "missing: volume 3"),
+            ("it is begun anew", old.lines() + new.lines() + lines[0], f"{new.named()}: not finished"),
+            ("it did not begin", b"".join(lines[1:]), no_line),
+            ("a part of a line", new.lines()[:-3], "it is no catalog"),
+            ("a bad line", new.lines() + b"hello\n", "it is no catalog"),
         ):
-            (self.clients / "usr.blocks").write_text(text)
-            self.came(Dump("2027-02-08 02:00", name="/home"))
-            self.stays(title, self.run_at("2027-02-08 02:00"), "not known")
-            (self.shelf / "2027-02-08").rename(self.folder / title.replace(" ", "-"))
-        (self.clients / "usr.blocks").write_text(Dump(OLD).number() + new.number())
-        self.came(Dump("2027-02-09 02:00", name="/home"))
-        self.same("it comes, beside that of another: no mail", self.run_at("2027-02-09 02:00"), GOOD)
-        self.same("it comes: the old dump goes", folder_of(OLD) in self.held(), False)
+            self.begin()
+            self.old_and_new(old, new)
+            self.catalog.unlink()
+            if text is not None:
+                self.catalog.write_bytes(text)
+            self.stays(title, self.run_at(NEW), fact)
+            self.entered(new)
+            self.catalog.write_bytes(new.lines())
+            self.same(f"{title}: it comes", (self.run_at(NEW), [*self.held()]), (GOOD, [folder_of(NEW)]))
 
     def test_entries(self) -> None:
         """Entries that cannot be read."""
         self.old_and_new(Dump(OLD), Dump(NEW))
         for title, text in (("a bad line", "hello\n"), ("no file", None)):
-            self.came(Dump("2027-02-08 02:00", name="/home"))
             if text is None:
-                (self.clients / "usr").unlink()
+                self.client.unlink()
             else:
-                (self.clients / "usr").write_text(text)
-            self.stays(title, self.run_at(NEW), "entries")
+                self.client.write_text(text)
+            self.stays(title, self.run_at(NEW), f"{self.client}: it cannot be compared with the shelf", f"rdump: {self.client}: ")
+
+    def test_two_entries(self) -> None:
+        """Of two entries of a name and level, what the first one needs stays too."""
+        self.old_and_new(Dump(OLD), Dump(NEW))
+        self.entered(Dump(NEW), Dump(OLD))
+        self.same("no mail", self.run_at(NEW), GOOD)
+        self.same("both stay", [*self.held()], [folder_of(OLD), folder_of(NEW)])
+
+    def test_dumps_that_build_on_one_another(self) -> None:
+        """A catalog that somebody made: the script comes to its end."""
+        one, other = Dump(NEW, since=LATER, level=1), Dump(LATER, since=NEW, level=2)
+        self.came(one, other)
+        self.entered(one, other)
+        self.same("no mail", self.run_at(NEW), GOOD)
 
     def test_unreadable(self) -> None:
         """A part of the shelf cannot be read."""
         self.old_and_new(Dump(OLD), Dump(NEW))
         self.same("no mail before", self.run_at(NEW, 365), GOOD)
-        self.came(Dump("2027-02-08 02:00", name="/home"))
-        (self.shelf / "2027-02-01").symlink_to(self.folder / "nowhere")
+        (self.shelf / folder_of("2027-02-01")).symlink_to(self.folder / "nowhere")
         self.stays("a folder that is away", self.run_at("2027-02-08 02:00"), "2027-02-01")
 
     def test_another_hidden_file(self) -> None:
@@ -341,6 +410,10 @@ def more(data: bytes) -> bytes:
     return data + images([b"more", None])
 
 
+def another_byte(data: bytes) -> bytes:
+    return data[:-20] + b"x" * 12 + data[-8:]
+
+
 class OtherDisk(ShelfCase):
     """The shelf is on a disk of its own, with room for four reels."""
 
@@ -367,11 +440,11 @@ class OtherDisk(ShelfCase):
         left = ([it.name for it in self.bin.iterdir()], self.held()[folder_of(NEW)])
         self.same("no room: the last reel stays in the bin", left, ([names[2]], names[:2]))
         # The next morning it is the same, though no reel's copy failed before in that folder.
-        self.stays("no room the next day", self.run_at("2027-02-08 02:00"), "could not be copied")
+        self.stays("no room the next day", self.run_at("2027-02-08 02:00"), "could not be copied", "no dump came")
         self.same("no room the next day: no folder for nothing", [*self.held()], [folder_of(OLD), folder_of(NEW)])
         self.holds("more room", self.mounted("remount,size=64k"))
         self.same("more room: no mail", self.run_at("2027-02-09 02:00"), GOOD)
-        self.same("more room: the old dump goes", self.held(), {folder_of(NEW): names[:2], "2027-02-09": names[2:]})
+        self.same("more room: the old dump goes", self.held(), {folder_of(NEW): names[:2], folder_of("2027-02-09"): names[2:]})
 
     def test_killed_while_it_copies(self) -> None:
         """A part of a copy stays in the folder of that day. It goes, and so does the folder later."""
@@ -412,8 +485,20 @@ class WhatCame(ShelfCase):
         return copies
 
     def test_no_reel(self) -> None:
+        self.same("an empty bin", self.run_at("2026-11-03 02:00"), self.alarm("usr"))
+        self.bin.rmdir()
         mail = self.run_at("2026-11-03 02:00")
-        self.same("an empty bin", (mail.status, "no dump came" in mail.text), (1, True), mail)
+        self.same("no bin", (mail.status, f"{self.bin}: it could not be read" in mail.text), (1, True), mail)
+
+    def test_what_is_not_entered(self) -> None:
+        """Reels of a dump that is not finished, or of another one's label, are no dump that came."""
+        new = Dump("2026-11-03 02:00", 6)
+        name, data = [*new.reels().items()][0]
+        (self.bin / name).write_bytes(data)
+        self.same("it is not finished: the mail", self.run_at(new.when), self.alarm("usr"))
+        (self.bin / "of another one").write_bytes(another_byte(self.dump.reels()[[*self.dump.reels()][0]]))
+        mail = self.run_at("2026-11-04 02:00")
+        self.same("another one's: the mail", ("whole, sum differs\n" in mail.text, "no dump came" in mail.text), (True, True), mail)
 
     def test_copies(self) -> None:
         """The copies of a restore are no dump that came: they stay in the bin, and the mail names them."""
@@ -452,11 +537,11 @@ class WhatCame(ShelfCase):
     def test_the_same_volume_on_another_reel(self) -> None:
         """A volume that was dumped again, whose blocks differ, is another reel."""
         name = [*self.dump.reels()][1]
-        other = self.bin / "again"
-        data = self.dump.reels()[name]
-        other.write_bytes(data[:-20] + b"x" * 12 + data[-8:])
-        mail = self.run_at("2026-11-03 02:00")
-        self.same("the same volume, other bytes", (mail, self.held().get("2026-11-03")), (GOOD, ["again"]))
+        (self.bin / "again").write_bytes(another_byte(self.dump.reels()[name]))
+        lines = self.catalog.read_bytes().splitlines(keepends=True)
+        self.catalog.write_bytes(b"".join((*lines[:-1], volume_line((self.bin / "again").read_bytes()), lines[-1])))
+        self.same("the same volume, other bytes", self.run_at("2026-11-03 02:00"), GOOD)
+        self.same("the same volume: both stay", self.held().get(folder_of("2026-11-03")), ["again"])
 
     def test_stopped_between_the_link_and_the_removal(self) -> None:
         """The reel has its name in the bin and on the shelf. It is no dump that came."""
@@ -468,30 +553,31 @@ class WhatCame(ShelfCase):
 
 
 class ReelsOfOneDump(ShelfCase):
-    """How docs/OPERATING.md restores one dump from a shelf of many."""
+    """How docs/OPERATING.md restores the last dump of a level from a shelf of many."""
 
     def test_reels(self) -> None:
         """Those of another name, level or date stay, and those that are not whole, whatever the bytes of the names are."""
         text = TOP.joinpath("docs/OPERATING.md").read_text()
-        (commands,) = re.findall(r"(?m)^date=.*\n(?:.*\n){2}rdump cat .* /srv/tape/shelf/\*(?= > tree.back)", text)
-        commands = commands.replace("mkdir back\n", "").replace("262144", str(BLOCK)).replace("/srv/tape/shelf", str(self.shelf))
-        names = ("/usr", "/usr.*", "[/usr]", "ann:/usr", "a|/usr\\\\", "/", "//usr")
-        dumps = [Dump(when, 5, level, FIRST, name) for name in names for level in (0, 1) for when in (OLD, NEW)]
+        (commands,) = re.findall(r"(?m)^date=.*\nrdump cat .* /srv/tape/shelf/\*-%2Fusr(?= > tree.back)", text)
+        commands = commands.replace("/srv/tape/shelf", str(self.shelf)).replace("/srv/tape/clients", str(self.clients))
+        last = [Dump(when, 5, level, FIRST if level else None, name) for name in NAMES for level, when in enumerate((NEW, LATER))]
+        dumps = [*last, *(it._replace(when=OLD) for it in last)]
         for number, dump in enumerate(dumps):
-            day = self.shelf / folder_of(dump.when)
+            day = self.shelf / folder_of(dump.when, encoded(dump.name))
             day.mkdir(exist_ok=True)
             for volume, data in enumerate(dump.reels().values(), 1):
-                path = day / f"{number}: *[a] usr level 0 '\\\\ \"$x\" \u00e9 {volume} "
-                path.write_bytes(data)
+                (day / f"{number}: *[a] usr level 0 '\\\\ \"$x\" \u00e9 {volume} ").write_bytes(data)
             (day / f"{number} cut").write_bytes(data[:-4])
-        for dump in dumps:
-            named = commands.replace("--fs /usr --level 0", f"--fs {shlex.quote(dump.name)} --level {dump.level}")
+        self.entered(*last)
+        for dump in last:
+            named = commands.replace("--name /usr --level 1", f"--name={shlex.quote(dump.name)} --level {dump.level + 1}")
+            named = named.replace("--level 0", f"--level {dump.level}").replace("*-%2Fusr", f"*-{shlex.quote(encoded(dump.name))}")
             got = subprocess.run(
                 ("sh", "-c", named),
                 cwd=self.folder,
-                env={**os.environ, "PATH": f"{self.programs}:{os.environ['PATH']}", "dump": dump.number().rstrip()},
+                env={**os.environ, "PATH": f"{self.programs}:{os.environ['PATH']}"},
                 capture_output=True,
                 timeout=GUARD_SECONDS,
                 check=False,
             )
-            self.same(f"{dump.number()}: its payload", (got.stdout, got.stderr, got.returncode), (dump.payload(), b"", DONE))
+            self.same(f"{dump.named()}: its payload", (got.stdout, got.stderr, got.returncode), (dump.payload(), b"", DONE))

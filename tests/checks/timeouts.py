@@ -443,7 +443,7 @@ class Unattended(EachCommandCase):
             for number in range(6):
                 server.reel(f"r{number}")
             errors = Path(name, "errors")
-            words = [UNATTENDED, self.p.rdump, *self.p.dump_words(text_of(server.address), "--timeout", str(LIMIT), "--sums", f"{name}/sums")]
+            words = [UNATTENDED, self.p.rdump, *self.p.dump_words(text_of(server.address), "--timeout", str(LIMIT), "--catalog", f"{name}/catalog")]
             with errors.open("wb") as told_there, self.started(words, told_there) as client:
                 self.holds(f"{title}: the dump comes there", soon(lambda: length(server.stacks[0] / amid) > 3_000))
                 os.kill(server.process.pid, signal.SIGSTOP)

@@ -9,8 +9,8 @@ from tests.lib.dumping import DumpCase
 from tests.lib.given import given
 from tests.lib.listings import Label, decoded, said, volume_of
 from tests.lib.restores import INTO, up_to_mark
+from tests.models.found import verdict_on
 from tests.models.rmtd import images
-from tests.models.sums import compared
 
 NO_MARK, CANNOT = "no mark", "cannot be told"
 
@@ -51,11 +51,11 @@ def copies(*reels: bytes) -> dict[str, bytes]:
     return {copy_name(it): copy_of(it) for it in reels}
 
 
-def fetched(*reels: bytes, sums: bytes | None = None) -> str:
-    """What is printed of these reels once they are fetched, with these lines of a sums file if there is one."""
+def fetched(*reels: bytes, catalog: bytes | None = None) -> str:
+    """What is printed of these reels once they are fetched, with this catalog if there is one."""
     lines = []
     for it in map(copy_of, reels):
-        verdict = "" if sums is None else f", {compared(it, sums)}"
+        verdict = "" if catalog is None else f", {verdict_on(it, catalog)}"
         lines.append(f"{said(it).line(copy_name(it))}{verdict}\n")
     return "".join(lines)
 

@@ -6,6 +6,7 @@ import os
 import re
 import subprocess
 from contextlib import contextmanager
+from datetime import datetime, timezone
 from pathlib import Path
 from typing import Iterator, NamedTuple
 
@@ -42,6 +43,21 @@ class Label(NamedTuple):
         return lines.encode().ljust(LABEL_BYTES, b"\0")
 
 
+def utc(date: int) -> str:
+    """A date with its text in UTC in brackets, as `rdump ls` prints it."""
+    return f"{date} ({datetime.fromtimestamp(date, timezone.utc):%Y-%m-%d %H:%M:%S})"
+
+
+def dump_words(name: str, level: int, date: int, since: int) -> str:
+    """A dump, as `rdump ls` names it. A base date of 0 is none, and has no text."""
+    return f"{name} level {level} date {utc(date)} since {utc(since) if since else 0}"
+
+
+def label_words(label: Label) -> str:
+    """What a label says, as `rdump ls` prints it."""
+    return f"{dump_words(*label[:4])} volume {label.volume} first {label.first}"
+
+
 def label_of(record: bytes) -> Label | None:
     """The label that a record is."""
     number = rb"(0|[1-9]\d{0,11})"
@@ -70,9 +86,10 @@ def decoded(data: bytes) -> tuple[list[Entry], int]:
 
 
 class Said(NamedTuple):
-    """What has to be said of a reel: its numbers, its words, and what its line is sorted by."""
+    """What has to be said of a reel: its numbers as a catalog has them and as `rdump ls` prints them, its words, and what its line is sorted by."""
 
     numbers: str
+    shown: str
     words: str
     place: tuple[object, ...]
 
@@ -80,7 +97,7 @@ class Said(NamedTuple):
         return self.words == "whole"
 
     def line(self, path: str) -> str:
-        return f"{path}: {self.numbers}: {self.words}"
+        return f"{path}: {self.shown}: {self.words}"
 
 
 def volume_of(entries: list[Entry]) -> tuple[Label, list[bytes], list[Entry]] | None:
@@ -113,17 +130,18 @@ def said(data: bytes) -> Said:
     found = volume_of(entries)
     if found:
         label, blocks, rest = found
+        size = f", {len(blocks)} blocks of {len(blocks[0]) if blocks else 0} bytes, {len(data)} bytes"
         return Said(
-            "%s level %d date %d since %d volume %d first %d" % label
-            + f", {len(blocks)} blocks of {len(blocks[0]) if blocks else 0} bytes, {len(data)} bytes",
+            "%s level %d date %d since %d volume %d first %d" % label + size,
+            label_words(label) + size,
             with_tail(end_words(blocks, rest), tail),
             (0, label.name, label.level, label.date, label.volume),
         )
     if not entries:
-        return Said(f"{len(data)} bytes", with_tail("empty", tail), (1,))
+        return Said(f"{len(data)} bytes", f"{len(data)} bytes", with_tail("empty", tail), (1,))
     marks = entries.count(None)
     numbers = f"{len(entries) - marks} records, {marks} marks, {len(data)} bytes"
-    return Said(numbers, with_tail("not a volume of rdump", tail), (1,))
+    return Said(numbers, numbers, with_tail("not a volume of rdump", tail), (1,))
 
 
 class Listed(NamedTuple):
@@ -201,7 +219,7 @@ def wire_words(data: bytes) -> str:
         return "not a volume of rdump"
     label, blocks, rest = found
     length = len(blocks[0]) if blocks else 0
-    facts = "%s level %d date %d since %d volume %d first %d" % label + f", {len(blocks)} blocks of {length} bytes"
+    facts = f"{label_words(label)}, {len(blocks)} blocks of {length} bytes"
     return f"{facts}: {end_words(blocks, rest)}"
 
 

@@ -26,6 +26,7 @@ PAGE = TOP / "docs/MESSAGES.md"
 PROGRAMS = {
     "rmtd": ("rmtd", "rmtd_serve", "sockets", "reel_files", "file_medium"),
     "rdump": (
+        "catalog",
         "named_files",
         "printable",
         "rdump",
@@ -41,7 +42,6 @@ PROGRAMS = {
         "rdump_system",
         "refusals",
         "remote_tape",
-        "sum_lines",
     ),
     "rsim": ("rsim", "rsim_schedule"),
 }

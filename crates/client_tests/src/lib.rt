@@ -2,7 +2,7 @@
 //! are a crate of their own so that each of these crates is proved only once:
 //! - the files of a dump: `rdump_files`.
 //! - its conversation over a connection: `rdump_net`, and `remote_tape`.
-//! - the sums of volumes: `rdump_sums`.
+//! - the sums of volumes, and the lines of a dump in a catalog: `rdump_sums`.
 //! - copies of reels: `rdump_fetch`.
 //! - lists of reels: `rdump_list`.
 #![tactic(auto)]

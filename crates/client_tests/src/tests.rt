@@ -1,6 +1,7 @@
 //! Dumps, volumes that are read back, operations, lists and dumpdates files, against values worked
 //! out by hand.
 
+mod catalog_dumps;
 mod checkpoints;
 mod compared;
 mod dates;

@@ -45,6 +45,18 @@ ctime_text date =
     weekday_name (date / 86400)
     ++ (space ∷ (month_name m.month ++ (space ∷ (day_text m.day ++ (space ∷ (time_text m ++ (space ∷ decimal m.year)))))))
 
+-- the byte of a hyphen
+abbrev pub hyphen : ℕ
+hyphen = 45
+
+-- yyyy-mm-dd
+abbrev pub utc_day : PlainMoment → List ℕ
+utc_day m = decimal m.year ++ (hyphen ∷ (two_digits m.month ++ (hyphen ∷ two_digits m.day)))
+
+-- yyyy-mm-dd hh:mm:ss
+unfoldable pub utc_text : ℕ → List ℕ
+utc_text date = utc_day (moment_of date) ++ (space ∷ time_text (moment_of date))
+
 -- a name padded with spaces to 32 bytes, or unchanged if it is longer
 abbrev pub padded_name : List ℕ → List ℕ
 padded_name name = name ++ replicate (32 - length name) space

@@ -95,7 +95,7 @@ fn push_day(text: &mut ArrayString<DATE_TEXT_BYTES>, day: u8)
 
 /// Appends a number below 100 as two digits.
 #[tactic(auto, using(std::proofs::lemmas::Fmt::decimal_digit))]
-fn push_two(text: &mut ArrayString<DATE_TEXT_BYTES>, number: u8)
+pub(crate) fn push_two(text: &mut ArrayString<DATE_TEXT_BYTES>, number: u8)
     requires below { number < 100 }
     requires room { length text.old.bytes + 2 ≤ DATE_TEXT_BYTES }
     ensures text { text.new.bytes ≡ text.old.bytes ++ spec.two_digits number }
@@ -106,7 +106,7 @@ fn push_two(text: &mut ArrayString<DATE_TEXT_BYTES>, number: u8)
 }
 
 /// Appends a number in decimal.
-fn push_number(text: &mut ArrayString<DATE_TEXT_BYTES>, number: u16)
+pub(crate) fn push_number(text: &mut ArrayString<DATE_TEXT_BYTES>, number: u16)
     requires { length text.old.bytes + length (decimal number) ≤ DATE_TEXT_BYTES }
     ensures text { text.new.bytes ≡ text.old.bytes ++ decimal number }
     ensures len { length text.new.bytes ≡ length text.old.bytes + length (decimal number) }

@@ -2,7 +2,7 @@
 //!
 //! `Dates` is the list of its entries. It reads and writes the file exactly, and returns the base
 //! date of a dump. Entering a dump changes no entry of another name or level. `date_text` returns a
-//! date as the file has it.
+//! date as the file has it, and `utc_text` returns it as numbers.
 //!
 //! # Contracts
 //!
@@ -23,6 +23,7 @@ mod list;
 mod moment;
 mod names;
 mod stored;
+mod utc;
 mod words;
 mod writer;
 
@@ -31,3 +32,4 @@ pub use dates::Dates;
 pub use entry::{Entry, LAST_SECOND, as_name, is_name};
 pub use fault::DatesFault;
 pub use laws::{one_entry, one_reading, written_and_read};
+pub use utc::utc_text;

@@ -1,6 +1,6 @@
 //! Files that an operator names: which of them are read, and a line that is not one of `rdump`.
 //!
-//! `read_named` reads a whole file, such as a sums file. `read_limited` reads an open file if it is
+//! `read_named` reads a whole file, such as a catalog. `read_limited` reads an open file if it is
 //! not too long. `is_null` recognizes the null device, which counts as an empty file, and
 //! `no_plain_file` is the error for what is no regular file. `ZonedLine` finds a line of a dumpdates
 //! file that dump(8) of Linux wrote.

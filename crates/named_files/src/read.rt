@@ -6,10 +6,10 @@ use std::io::{self, ErrorKind, Read};
 use std::os::unix::fs::{FileTypeExt, MetadataExt};
 use std::rt::Files;
 
-/// The most bytes that a dumpdates file or a sums file may have: 256 MiB.
+/// The most bytes that a dumpdates file or a catalog may have: 256 MiB.
 const MOST_BYTES: u64 = 256 << 20;
 
-/// Reads a whole file that an operator names, such as a sums file. It may be a pipe or the null
+/// Reads a whole file that an operator names, such as a catalog. It may be a pipe or the null
 /// device, but no other device, which may have no end.
 ///
 /// Fails with the system's error if the file cannot be opened or read. Fails with `InvalidInput` if

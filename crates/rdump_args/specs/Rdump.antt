@@ -1,5 +1,5 @@
 -- The limits of the arguments of `rdump`. Public contracts cite it.
-use Rattle.std.specs.Prelude.{◌≡◌, ◌≤◌, ◌<◌, ◌*◌, ℕ, Option, None, Some, IfSome, MatchOption, IsSome, ⊤, length}
+use Rattle.std.specs.Prelude.{◌≡◌, ◌↔◌, ◌≤◌, ◌<◌, ◌*◌, ℕ, Option, None, Some, IfSome, MatchOption, IsSome, ⊤, length}
 use Rattle.std.specs.Borrow.{Bor}
 use Rattle.std.specs.Duration.{as_nanos}
 use Rattle.std.specs.declared.time.Duration.{Duration}
@@ -17,6 +17,7 @@ use Rattle.rdump_args.specs.declared.dump_line.DumpLine.{DumpLine}
 use Rattle.rdump_args.specs.declared.read_line.ReadLine.{ReadLine}
 use Rattle.rdump_args.specs.declared.fetch_line.FetchLine.{FetchLine}
 use Rattle.rdump_args.specs.declared.list_line.ListLine.{ListLine}
+use Rattle.rdump_args.specs.declared.list_line.WantedDumps.{WantedDumps}
 use Rattle.rdump_args.specs.declared.list_line.ListedReels.{ListedReels}
 use Rattle.rdump_args.specs.declared.list_line.ListedReels.TheVariants.{Paths, Drive}
 use Rattle.rdump_args.specs.declared.mt_line.MtLine.{MtLine}
@@ -42,19 +43,27 @@ IsReadLine line = IsDevice line.device.now
 abbrev pub IsFetchLine : FetchLine → Type 0
 IsFetchLine line = IsDevice line.device.now
 
--- there is a path, the level is one that a dump can have, and the numbers are at most `ARGUMENT_LIMIT`
+-- There is a path, the level is one that a dump can have, and the numbers are at most
+-- `ARGUMENT_LIMIT`. Either a length or a catalog is given.
 abbrev pub IsCatLine : CatLine → Type 0
 IsCatLine line =
-    (0 < length line.paths.items) × IfSome line.level (λ n. n ≤ 9) × IfSome line.date (λ n. n ≤ ARGUMENT_LIMIT) × (line.length ≤ ARGUMENT_LIMIT)
+    (0 < length line.paths.items) × IfSome line.level (λ n. n ≤ 9) × IfSome line.date (λ n. n ≤ ARGUMENT_LIMIT)
+    × IfSome line.length (λ n. n ≤ ARGUMENT_LIMIT) × (IsSome line.length ↔ (line.catalog ≡ None))
 
 -- the reels to list are those at the paths, at least one, or those of a drive
 abbrev pub IsListedReels : ListedReels → Type 0
 IsListedReels (Paths paths) = 0 < length paths.items
 IsListedReels (Drive to device timeout) = IsDevice device.now × IsAddress to.now
 
--- the number of blocks, if given, is one that a dump can have, and there is a dumpdates file
+-- the level is one that a dump can have, and the date is at most `ARGUMENT_LIMIT`
+abbrev pub IsWantedDumps : WantedDumps → Type 0
+IsWantedDumps wanted = IfSome wanted.level (λ n. n ≤ 9) × IfSome wanted.date (λ n. n ≤ ARGUMENT_LIMIT)
+
+-- The number of blocks, if given, is one that a dump can have, and there is a dumpdates file. If
+-- dumps are named, the level is one that a dump can have.
 abbrev pub IsListLine : ListLine → Type 0
-IsListLine line = IsListedReels line.reels × IfSome line.blocks (λ n. (n ≤ NUMBER_LIMIT) × IsSome line.dumpdates)
+IsListLine line =
+    IsListedReels line.reels × IfSome line.blocks (λ n. (n ≤ NUMBER_LIMIT) × IsSome line.dumpdates) × IfSome line.wanted IsWantedDumps
 
 -- a device, an operation and a count that a request can name
 abbrev pub IsMtLine : MtLine → Type 0

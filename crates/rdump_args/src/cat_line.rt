@@ -1,9 +1,9 @@
 //! The arguments of `rdump cat`.
-ghost use Rattle.std.specs.Prelude.{◌≤◌, ◌<◌, IfOk, IfSome, length};
+ghost use Rattle.std.specs.Prelude.{◌≡◌, ◌↔◌, ◌≤◌, ◌<◌, IfOk, IfSome, IsSome, None, length};
 ghost use Rattle.rdump_args.specs.Rdump.{IsCatLine};
 ghost use Rattle.rmt_wire.specs.declared.argument.TheConstants.{ARGUMENT_LIMIT};
 
-use crate::argument::{ArgumentSpec, Form, value_in};
+use crate::argument::{ArgumentSpec, Form};
 use crate::dates_line::level_of;
 use crate::fault::ArgumentFault;
 use clap::ArgMatches;
@@ -21,12 +21,21 @@ pub struct CatLine<'a> {
     pub level: Option<u8>,
     /// The date of the dump in seconds since the beginning of 1970 (UTC), or None for any.
     pub date: Option<u64>,
-    /// The length of the payload in bytes.
-    pub length: u64,
+    /// The path of the catalog that has the dump, or None to have none.
+    pub catalog: Option<&'a str>,
+    /// The length of the payload in bytes, or None if a catalog is given. It is given exactly
+    /// if no catalog is.
+    pub length: Option<u64>,
 }
 
 /// The message if no reel is named.
 const NO_REEL: &str = "a FILE or a FOLDER is required";
+
+/// The message if the length of the payload is not known.
+const NO_LENGTH: &str = "--catalog or --length is required";
+
+/// The message if the length is given twice.
+const TWO_LENGTHS: &str = "--catalog or --length is given, and not both";
 
 /// The message for a level that no dump can have.
 const BAD_LEVEL: &str = "invalid value for '--level <LEVEL>': a level is one digit, 0 to 9";
@@ -49,9 +58,8 @@ pub(crate) fn cat_in<'a>(
 {
     let level = level_in(matches.get_str("level"))?;
     let date = date_in(matches.get_str("date"))?;
-    let Some(length) = number_of(value_in(matches, "length")) else {
-        return Err(ArgumentFault::Value(BAD_LENGTH));
-    };
+    let catalog = matches.get_str("catalog");
+    let length = length_in(matches.get_str("length"), catalog)?;
     let paths = match matches.get_strs("path") {
         Some(paths) => paths_of(alloc, paths)?,
         None => return Err(ArgumentFault::Missing(NO_REEL)),
@@ -61,6 +69,7 @@ pub(crate) fn cat_in<'a>(
         name: matches.get_str("fs"),
         level,
         date,
+        catalog,
         length,
     })
 }
@@ -78,8 +87,25 @@ fn paths_of<'a>(alloc: Global, paths: &[&'a str]) -> Result<Vec<&'a str>, Argume
     }
 }
 
+/// Returns the length in a text, if there is a text. Fails if it is no number, or unless either the
+/// text or a catalog is given.
+fn length_in(text: Option<&str>, catalog: Option<&str>) -> Result<Option<u64>, ArgumentFault>
+    ensures number { IfOk result (λ length. IfSome length (λ n. n ≤ ARGUMENT_LIMIT)) }
+    ensures one { IfOk result (λ length. IsSome length ↔ (catalog.entry ≡ None)) }
+{
+    match (text, catalog) {
+        (None, None) => Err(ArgumentFault::Missing(NO_LENGTH)),
+        (None, Some(_)) => Ok(None),
+        (Some(_), Some(_)) => Err(ArgumentFault::Conflict(TWO_LENGTHS)),
+        (Some(text), None) => match number_of(text) {
+            Some(length) => Ok(Some(length)),
+            None => Err(ArgumentFault::Value(BAD_LENGTH)),
+        },
+    }
+}
+
 /// Returns the level in a text, if there is a text. Fails if it is no level.
-fn level_in(text: Option<&str>) -> Result<Option<u8>, ArgumentFault>
+pub(crate) fn level_in(text: Option<&str>) -> Result<Option<u8>, ArgumentFault>
     ensures { IfOk result (λ level. IfSome level (λ n. n ≤ 9)) }
 {
     let Some(text) = text else {
@@ -92,7 +118,7 @@ fn level_in(text: Option<&str>) -> Result<Option<u8>, ArgumentFault>
 }
 
 /// Returns the date in a text, if there is a text. Fails if it is no number.
-fn date_in(text: Option<&str>) -> Result<Option<u64>, ArgumentFault>
+pub(crate) fn date_in(text: Option<&str>) -> Result<Option<u64>, ArgumentFault>
     ensures { IfOk result (λ date. IfSome date (λ n. n ≤ ARGUMENT_LIMIT)) }
 {
     let Some(text) = text else {
@@ -105,7 +131,7 @@ fn date_in(text: Option<&str>) -> Result<Option<u64>, ArgumentFault>
 }
 
 /// The arguments of `rdump cat`.
-pub(crate) static CAT_ARGUMENTS: [ArgumentSpec; 5] = [
+pub(crate) static CAT_ARGUMENTS: [ArgumentSpec; 6] = [
     ArgumentSpec {
         name: "path",
         value: "FILE|FOLDER",
@@ -114,11 +140,18 @@ pub(crate) static CAT_ARGUMENTS: [ArgumentSpec; 5] = [
         missing: "",
     },
     ArgumentSpec {
+        name: "catalog",
+        value: "FILE",
+        help: "The catalog that has the dump",
+        form: Form::Optional,
+        missing: "",
+    },
+    ArgumentSpec {
         name: "length",
         value: "BYTES",
-        help: "The length of the payload",
-        form: Form::Required,
-        missing: "--length is required",
+        help: "The length of the payload, if there is no catalog",
+        form: Form::Optional,
+        missing: "",
     },
     ArgumentSpec {
         name: "fs",

@@ -36,8 +36,8 @@ pub struct DumpLine<'a> {
     pub date: Option<u64>,
     /// The path of the file that keeps the checkpoint, or None to keep none.
     pub checkpoint: Option<&'a str>,
-    /// The path of the file that keeps the sums of counted volumes, or None to keep none.
-    pub sums: Option<&'a str>,
+    /// The path of the catalog, or None to keep none.
+    pub catalog: Option<&'a str>,
     /// Whether to enter the dump in the dumpdates file once it is complete.
     pub update: bool,
     /// Whether each attempt first looks at the reel, and never writes on a reel of another dump.
@@ -78,7 +78,7 @@ pub(crate) fn dump_in<'a>(matches: &ArgMatches<'a>) -> Result<DumpLine<'a>, Argu
             dumpdates: value_in(matches, "dumpdates"),
             date,
             checkpoint: matches.get_str("checkpoint"),
-            sums: matches.get_str("sums"),
+            catalog: matches.get_str("catalog"),
             update: is_given(matches, "update"),
             protect: is_given(matches, "protect"),
         }),
@@ -173,9 +173,9 @@ pub(crate) static DUMP_ARGUMENTS: [ArgumentSpec; 13] = [
         missing: "",
     },
     ArgumentSpec {
-        name: "sums",
+        name: "catalog",
         value: "FILE",
-        help: "Add the SHA-256 of each counted volume to this file",
+        help: "Enter the dump and the SHA-256 of each counted volume in this catalog",
         form: Form::Optional,
         missing: "",
     },

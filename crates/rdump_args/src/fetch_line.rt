@@ -21,8 +21,8 @@ pub struct FetchLine<'a> {
     pub timeout: Option<Duration>,
     /// The path of the folder that gets the record files.
     pub into: &'a str,
-    /// The path of the file with the sums to compare each reel with, or None to compare none.
-    pub sums: Option<&'a str>,
+    /// The path of the catalog to compare each reel with, or None to compare none.
+    pub catalog: Option<&'a str>,
 }
 
 /// Returns the command line of `rdump fetch` in clap's matches. Fails if the address or the device
@@ -37,7 +37,7 @@ pub(crate) fn fetch_in<'a>(matches: &ArgMatches<'a>) -> Result<FetchLine<'a>, Ar
         device,
         timeout,
         into: value_in(matches, "into"),
-        sums: matches.get_str("sums"),
+        catalog: matches.get_str("catalog"),
     })
 }
 
@@ -54,9 +54,9 @@ pub(crate) static FETCH_ARGUMENTS: [ArgumentSpec; 5] = [
         missing: "--into is required",
     },
     ArgumentSpec {
-        name: "sums",
+        name: "catalog",
         value: "FILE",
-        help: "Compare each reel with the sums in this file",
+        help: "Compare each reel with this catalog",
         form: Form::Optional,
         missing: "",
     },

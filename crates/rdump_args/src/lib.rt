@@ -17,7 +17,7 @@ mod timeout;
 pub use cat_line::CatLine;
 pub use dump_line::DumpLine;
 pub use fetch_line::FetchLine;
-pub use list_line::{ListLine, ListedReels};
+pub use list_line::{ListLine, ListedReels, WantedDumps};
 pub use mt_line::MtLine;
 pub use rdump_line::{RdumpLine, dump_error, rdump_args};
 pub use read_line::ReadLine;

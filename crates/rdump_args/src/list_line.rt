@@ -1,8 +1,9 @@
 //! The arguments of `rdump ls`.
 ghost use Rattle.std.specs.Prelude.{◌≤◌, ◌<◌, ◌≡◌, IfOk, IfSome, IsSome, length};
-ghost use Rattle.rdump_args.specs.Rdump.{IsListLine, IsListedReels};
+ghost use Rattle.rdump_args.specs.Rdump.{IsListLine, IsListedReels, IsWantedDumps};
 
 use crate::argument::{ArgumentSpec, Form};
+use crate::cat_line::{date_in, level_in};
 use crate::drive::drive_of;
 use crate::fault::ArgumentFault;
 use crate::timeout::timeout_of;
@@ -22,8 +23,22 @@ pub struct ListLine<'a> {
     /// How many blocks each of those dumps has, up to `rmt_wire::NUMBER_LIMIT`, or None if no
     /// argument gives it. It is given only with a dumpdates file.
     pub blocks: Option<u64>,
-    /// The path of the file with the sums to compare each reel with, or None to compare none.
-    pub sums: Option<&'a str>,
+    /// The path of the catalog to compare each reel with, or None to compare none.
+    pub catalog: Option<&'a str>,
+    /// The dumps of the catalog to look for, or None to look for those of which there is a reel. It
+    /// is given only with a catalog.
+    pub wanted: Option<WantedDumps<'a>>,
+}
+
+/// Dumps that have these values.
+#[derive(Clone, Copy, Debug)]
+pub struct WantedDumps<'a> {
+    /// The name of the dumped file system, or None for any.
+    pub name: Option<&'a str>,
+    /// The level, 0 to 9, or None for any.
+    pub level: Option<u8>,
+    /// The date in seconds since the beginning of 1970 (UTC), or None for any.
+    pub date: Option<u64>,
 }
 
 /// The reels that `rdump ls` lists.
@@ -55,6 +70,9 @@ const HALF_A_DRIVE: &str = "--to and --device are given together or not at all";
 /// The message for a number of blocks without a dumpdates file.
 const BLOCKS_ALONE: &str = "--blocks is given with --dumpdates only";
 
+/// The message for dumps that are named without a catalog.
+const DUMPS_ALONE: &str = "--fs, --level and --date are given with --catalog only";
+
 /// The message for a number of blocks that is not valid.
 const BAD_BLOCKS: &str =
     "invalid value for '--blocks <N>': a dump has 0 to 2147483647 blocks, in digits";
@@ -69,15 +87,34 @@ pub(crate) fn list_in<'a>(
 {
     let dumpdates = matches.get_str("dumpdates");
     let blocks = blocks_of(matches.get_str("blocks"), dumpdates)?;
+    let wanted = wanted_in(matches)?;
     match reels_in(alloc, matches) {
         Ok(reels) => Ok(ListLine {
             reels,
             dumpdates,
             blocks,
-            sums: matches.get_str("sums"),
+            catalog: matches.get_str("catalog"),
+            wanted,
         }),
         Err(fault) => Err(fault),
     }
+}
+
+/// Returns the dumps that the arguments name, or None if they name none. Fails if there is no
+/// catalog, or if a level or a date is not valid.
+fn wanted_in<'a>(matches: &ArgMatches<'a>) -> Result<Option<WantedDumps<'a>>, ArgumentFault>
+    ensures { IfOk result (λ wanted. IfSome wanted IsWantedDumps) }
+{
+    let name = matches.get_str("fs");
+    let level = level_in(matches.get_str("level"))?;
+    let date = date_in(matches.get_str("date"))?;
+    if name.is_none() && level.is_none() && date.is_none() {
+        return Ok(None);
+    }
+    if matches.get_str("catalog").is_none() {
+        return Err(ArgumentFault::Missing(DUMPS_ALONE));
+    }
+    Ok(Some(WantedDumps { name, level, date }))
 }
 
 /// Returns the number of blocks in `text`, if there is a text. Fails if it is not a number up to
@@ -156,7 +193,7 @@ fn path_reels<'a>(alloc: Global, paths: &[&'a str]) -> Result<ListedReels<'a>, A
 }
 
 /// The arguments of `rdump ls`.
-pub(crate) static LIST_ARGUMENTS: [ArgumentSpec; 7] = [
+pub(crate) static LIST_ARGUMENTS: [ArgumentSpec; 10] = [
     ArgumentSpec {
         name: "path",
         value: "FILE|FOLDER",
@@ -193,9 +230,30 @@ pub(crate) static LIST_ARGUMENTS: [ArgumentSpec; 7] = [
         missing: "",
     },
     ArgumentSpec {
-        name: "sums",
+        name: "catalog",
         value: "FILE",
-        help: "Compare each reel with the sums in this file",
+        help: "Compare each reel with this catalog, and tell of each dump what is there",
+        form: Form::Optional,
+        missing: "",
+    },
+    ArgumentSpec {
+        name: "fs",
+        value: "NAME",
+        help: "Tell only of dumps of this file system, also if no reel is there",
+        form: Form::Optional,
+        missing: "",
+    },
+    ArgumentSpec {
+        name: "level",
+        value: "LEVEL",
+        help: "Tell only of dumps of this level, 0 to 9",
+        form: Form::Optional,
+        missing: "",
+    },
+    ArgumentSpec {
+        name: "date",
+        value: "SECONDS",
+        help: "Tell only of dumps of this date, in seconds since 1970",
         form: Form::Optional,
         missing: "",
     },

@@ -49,13 +49,16 @@ pub enum RdumpLine<'a> {
 /// of its commands:
 ///
 /// - `dump --to ADDRESS --device D [--timeout SECONDS] --fs NAME --level L --payload FILE --block
-///   BYTES --dumpdates FILE [--date SECONDS] [--checkpoint FILE] [--sums FILE] [--update]
+///   BYTES --dumpdates FILE [--date SECONDS] [--checkpoint FILE] [--catalog FILE] [--update]
 ///   [--protect]`
 /// - `read --to ADDRESS --device D [--timeout SECONDS] --out FILE`
-/// - `fetch --to ADDRESS --device D [--timeout SECONDS] --into FOLDER [--sums FILE]`
-/// - `cat --length BYTES [--fs NAME] [--level LEVEL] [--date SECONDS] FILE|FOLDER...`
-/// - `ls FILE|FOLDER... [--dumpdates FILE [--blocks N]] [--sums FILE]`
-/// - `ls --to ADDRESS --device D [--timeout SECONDS] [--dumpdates FILE [--blocks N]] [--sums FILE]`
+/// - `fetch --to ADDRESS --device D [--timeout SECONDS] --into FOLDER [--catalog FILE]`
+/// - `cat [--catalog FILE] [--length BYTES] [--fs NAME] [--level LEVEL] [--date SECONDS]
+///   FILE|FOLDER...`; one of `--catalog` and `--length` is given, and not both
+/// - `ls FILE|FOLDER... [--dumpdates FILE [--blocks N]] [--catalog FILE [--fs NAME] [--level LEVEL]
+///   [--date SECONDS]]`
+/// - `ls --to ADDRESS --device D [--timeout SECONDS] [--dumpdates FILE [--blocks N]] [--catalog FILE
+///   [--fs NAME] [--level LEVEL] [--date SECONDS]]`
 /// - `mt --to ADDRESS --device D [--timeout SECONDS] OP COUNT`
 /// - `dates --file FILE [--name NAME --level LEVEL]`
 ///
@@ -73,10 +76,11 @@ pub fn rdump_args<'a, S: AsStr>(alloc: Global, arguments: &'a [S]) -> Result<Rdu
     //
     // For `ls`, the arguments name either one or more paths, or a drive, but not both. If the
     // arguments contain a number of blocks, the arguments name a dumpdates file too. The number of
-    // blocks is at most 2147483647.
+    // blocks is at most 2147483647. The level of the dumps to look for, if given, is at most 9, and
+    // their date is at most 9223372036854775807.
     //
-    // For `cat`, the arguments name one or more paths. The level, if given, is at most 9. The date,
-    // if given, and the length are at most 9223372036854775807.
+    // For `cat`, the arguments name one or more paths, and either a length or a catalog. The level, if given, is at most 9. The date and the length, if given, are at most
+    // 9223372036854775807.
     //
     // For `dump`, the level, the block size and the date, if given, are at most
     // 9223372036854775807.

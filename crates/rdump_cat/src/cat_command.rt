@@ -1,11 +1,18 @@
 //! The command `rdump cat`.
-use crate::dumps::print_dumps;
+use crate::dumps::{dumps_of, print_dumps};
 use crate::file_shelf::FileShelf;
-use crate::report::{print_changed, print_refusal, print_unreadable, print_unwritten};
+use crate::known_dump::{finished_line, wanted_of};
+use crate::outcome::status_of;
+use crate::report::{
+    print_changed, print_no_volume, print_not_known, print_refusal, print_unreadable,
+    print_unwritten,
+};
 use crate::watched::Watched;
+use catalog::Catalog;
+use dump_run::DumpId;
 use exit_status::ExitStatus;
 use rdump_args::CatLine;
-use rdump_list::{ListSystem, ReelPath, ReelPaths};
+use rdump_list::{ListSystem, ReelPath, ReelPaths, read_catalog};
 use restore::{Refusal, RestoreFault, Wanted, restore};
 use rmt_wire::Counted;
 use std::alloc::AllocError;
@@ -15,14 +22,19 @@ use std::io::{self, Write};
 /// payload to standard output. It writes nothing before all files are checked, and never writes to
 /// them. `terminal` is standard error, if that is a terminal: it shows how far the command is.
 ///
+/// With a catalog, the reels must have all volumes of a dump that the catalog has as finished, and
+/// the sum of each must be that of the line in force. Other reels of the dump are set aside, each
+/// named on standard error.
+///
 /// Returns the exit status:
 ///
 /// - `Success` if the whole payload was written. Also if the reader of standard output closed it
 ///   before: the reels were checked, and the reader wanted no more.
-/// - `StartupError` if a file cannot be read, the files have volumes of more than one dump that is
-///   wanted, an allocation fails, or standard output cannot be written.
+/// - `StartupError` if a file cannot be read, the catalog is not valid, the files have volumes of
+///   more than one dump that is wanted, an allocation fails, or standard output cannot be written.
 /// - `Abnormal` if a volume is missing, or the files are not those of one dump with a payload of
-///   this length. Nothing was written then. Also if a file was changed after it was checked.
+///   this length, or the catalog does not have the dump as finished. Nothing was written then. Also
+///   if a file was changed after it was checked.
 ///
 /// Errors are printed on standard error.
 pub fn run_cat<R: ListSystem, T: Write + Drop>(
@@ -52,21 +64,106 @@ fn cat<R: ListSystem, T: Write + Drop>(
         name: line.name,
         level: line.level,
         date: line.date,
-        length: line.length,
+        length: line.length.unwrap_or(0),
+        volumes: None,
+        lines: None,
     };
-    let mut shelf = FileShelf::new(rt, &paths, terminal);
+    match line.catalog {
+        Some(path) => cat_of_catalog(rt, path, &paths, &wanted, terminal),
+        None => cat_of_length(rt, &paths, &wanted, terminal),
+    }
+}
+
+/// Writes the payload of the length that is wanted, and returns the exit status. If it succeeds, it
+/// prints what it cannot know. Fails if an allocation fails.
+fn cat_of_length<R: ListSystem, T: Write + Drop>(
+    rt: &R,
+    paths: &[ReelPath],
+    wanted: &Wanted<'_>,
+    terminal: Option<T>,
+) -> Result<ExitStatus, AllocError> {
+    let status = write_payload(rt, paths, wanted, terminal)?;
+    if status == ExitStatus::Success {
+        let _ = eprintln!(rt;
+            "rdump: without a catalog: two payloads of one name, level and dates look alike"
+        );
+    }
+    Ok(status)
+}
+
+/// Writes the payload of the dump that the reels have, if the catalog at this path has it as
+/// finished. Returns the exit status. Fails if an allocation fails.
+fn cat_of_catalog<R: ListSystem, T: Write + Drop>(
+    rt: &R,
+    path: &str,
+    paths: &[ReelPath],
+    wanted: &Wanted<'_>,
+    terminal: Option<T>,
+) -> Result<ExitStatus, AllocError> {
+    let Some(catalog) = read_catalog(rt, path)? else {
+        return Ok(ExitStatus::StartupError);
+    };
+    let Some(dumps) = dumps_of(rt, paths, wanted)? else {
+        return Ok(ExitStatus::StartupError);
+    };
+    match dumps.as_slice() {
+        [] => Ok(print_no_volume(rt)),
+        [id] => cat_of_dump(rt, path, paths, &catalog, id, terminal),
+        dumps => print_dumps(rt, dumps),
+    }
+}
+
+/// Writes the payload of this dump, if the catalog, which is at this path, has it as finished.
+/// Returns the exit status. Fails if an allocation fails.
+fn cat_of_dump<R: ListSystem, T: Write + Drop>(
+    rt: &R,
+    path: &str,
+    paths: &[ReelPath],
+    catalog: &Catalog,
+    id: &DumpId,
+    terminal: Option<T>,
+) -> Result<ExitStatus, AllocError> {
+    match finished_line(catalog, id) {
+        Ok(finished) => write_payload(rt, paths, &wanted_of(catalog, id, finished), terminal),
+        Err(why) => Ok(print_not_known(rt, path, why)),
+    }
+}
+
+/// Writes the payload that is wanted, and returns the exit status. Fails if an allocation fails.
+fn write_payload<R: ListSystem, T: Write + Drop>(
+    rt: &R,
+    paths: &[ReelPath],
+    wanted: &Wanted<'_>,
+    terminal: Option<T>,
+) -> Result<ExitStatus, AllocError> {
+    let mut shelf = FileShelf::new(rt, paths, terminal);
     let mut out = Counted::new(Watched::new(io::writer(rt)));
-    let restored = restore(rt.alloc(), &mut shelf, &wanted, &mut out);
+    let restored = restore(rt.alloc(), &mut shelf, wanted, &mut out);
     shelf.clear();
+    let out = out.into_inner();
     match restored {
-        Ok(()) => Ok(ExitStatus::Success),
-        Err(RestoreFault::Refused(Refusal::OutOfMemory)) => Err(AllocError),
-        Err(RestoreFault::Refused(Refusal::TwoDumps { .. })) => print_dumps(rt, &paths, &wanted),
-        Err(RestoreFault::Refused(refusal)) => {
-            Ok(print_refusal(rt, &paths, refusal, shelf.fault()))
+        Ok(()) => {}
+        Err(RestoreFault::Refused(Refusal::OutOfMemory)) => return Err(AllocError),
+        Err(RestoreFault::Refused(Refusal::TwoDumps { .. })) => {
+            return print_wanted_dumps(rt, paths, wanted);
         }
-        Err(RestoreFault::Reel { reel }) => Ok(print_changed(rt, &paths, reel)),
-        Err(RestoreFault::Output) => Ok(print_unwritten(rt, out.into_inner().fault())),
+        Err(RestoreFault::Refused(refusal)) => print_refusal(rt, paths, refusal, shelf.fault()),
+        Err(RestoreFault::Reel { reel }) => print_changed(rt, paths, reel),
+        Err(RestoreFault::Output) => print_unwritten(rt, out.fault()),
+    }
+    Ok(status_of(&restored, out.is_closed()))
+}
+
+/// Prints the dumps that are wanted, of which the reels have volumes. Returns `StartupError`. Fails
+/// if an allocation fails.
+fn print_wanted_dumps<R: ListSystem>(
+    rt: &R,
+    paths: &[ReelPath],
+    wanted: &Wanted<'_>,
+) -> Result<ExitStatus, AllocError> {
+    match dumps_of(rt, paths, wanted)? {
+        Some(dumps) => print_dumps(rt, &dumps),
+        None => Ok(ExitStatus::StartupError),
     }
 }
 

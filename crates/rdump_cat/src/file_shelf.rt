@@ -1,5 +1,7 @@
 //! Record files as a shelf of reels.
+use catalog::SumVerdict;
 use file_medium::FileMedium;
+use printable::plain;
 use rdump_list::{ListProgress, ListSystem, MarkLimit, ReelPath, ShownMedium, open_plain};
 use restore::{OpenFailed, Shelf};
 use std::io::{self, Write};
@@ -73,6 +75,15 @@ impl<'a, R: ListSystem, T: Write + Drop> Shelf for FileShelf<'a, R, T> {
         let ShownMedium { progress, .. } = reel;
         if let Some(progress) = progress {
             self.progress = Some(progress);
+        }
+    }
+
+    /// Prints on standard error which reel is set aside, and why.
+    fn set_aside(&mut self, number: usize, verdict: SumVerdict) {
+        self.clear();
+        if let Some(path) = self.paths.get(number) {
+            let (path, words) = (plain(path.path.as_str()), verdict.words());
+            let _ = eprintln!(self.rt; "rdump: {path}: {words}: it is set aside");
         }
     }
 }

@@ -1,4 +1,5 @@
 //! Error messages on standard error. If one cannot be printed, the exit status is the same.
+use crate::known_dump::NotKnown;
 use exit_status::ExitStatus;
 use printable::plain;
 use rdump_list::ReelPath;
@@ -16,14 +17,14 @@ fn path_of(paths: &[ReelPath], reel: usize) -> &str {
     }
 }
 
-/// Prints why nothing was written, and returns the exit status. `error` is why a file could not be
+/// Prints why nothing was written. `error` is why a file could not be
 /// opened, if one could not.
 pub(crate) fn print_refusal<R: Eprint>(
     rt: &R,
     paths: &[ReelPath],
     refusal: Refusal,
     error: Option<io::Error>,
-) -> ExitStatus {
+) {
     match refusal {
         Refusal::Unreadable { reel } => print_unreadable(rt, path_of(paths, reel), error),
         Refusal::TwoReels { reel, other } => {
@@ -31,25 +32,21 @@ pub(crate) fn print_refusal<R: Eprint>(
             let _ = eprintln!(rt;
                 "rdump: {one} and {two} have the same volume, with different bytes: leave out one of them"
             );
-            ExitStatus::Abnormal
         }
         Refusal::TwoSizes { reel, other } => {
             let (one, two) = (plain(path_of(paths, reel)), plain(path_of(paths, other)));
             let _ = eprintln!(rt;
                 "rdump: {one} and {two} have blocks of different sizes: leave out one of them"
             );
-            ExitStatus::Abnormal
         }
         Refusal::Missing { volume } => {
             let _ = eprintln!(rt; "rdump: volume {volume} is missing: {LIST_THEM}");
-            ExitStatus::Abnormal
         }
         Refusal::Displaced { reel, end } => {
             let path = plain(path_of(paths, reel));
             let _ = eprintln!(rt;
                 "rdump: {path}: it does not begin at block {end}, where the volume before it ends"
             );
-            ExitStatus::Abnormal
         }
         Refusal::OtherLength {
             blocks,
@@ -58,43 +55,55 @@ pub(crate) fn print_refusal<R: Eprint>(
             let _ = eprintln!(rt;
                 "rdump: the volumes have {blocks} blocks of {block_bytes} bytes, and a payload of this length has another number of blocks: {LIST_THEM}"
             );
-            ExitStatus::Abnormal
+        }
+        Refusal::MoreVolumes { volumes } => {
+            let _ = eprintln!(rt;
+                "rdump: there are more volumes than the {volumes} of the dump in the catalog: {LIST_THEM}"
+            );
         }
         Refusal::NoVolume | Refusal::OutOfMemory | Refusal::TwoDumps { .. } => {
-            let _ = eprintln!(rt; "rdump: no file has a whole volume of such a dump: {LIST_THEM}");
-            ExitStatus::Abnormal
+            print_no_volume(rt);
         }
     }
 }
 
-/// Prints why a file could not be read, and returns `StartupError`.
-pub(crate) fn print_unreadable<R: Eprint>(
-    rt: &R,
-    path: &str,
-    error: Option<io::Error>,
-) -> ExitStatus {
+/// Prints that there is no volume of a dump that is wanted, and returns `Abnormal`.
+pub(crate) fn print_no_volume<R: Eprint>(rt: &R) -> ExitStatus {
+    let _ = eprintln!(rt; "rdump: no file has a whole volume of such a dump: {LIST_THEM}");
+    ExitStatus::Abnormal
+}
+
+/// Prints why the catalog at this path is of no use for the dump, and returns `Abnormal`.
+pub(crate) fn print_not_known<R: Eprint>(rt: &R, path: &str, why: NotKnown) -> ExitStatus {
+    let path = plain(path);
+    let _ = match why {
+        NotKnown::NoDump => eprintln!(rt; "rdump: {path}: it has no such dump"),
+        NotKnown::NotFinished => eprintln!(rt; "rdump: {path}: the dump is not finished"),
+    };
+    ExitStatus::Abnormal
+}
+
+/// Prints why a file could not be read.
+pub(crate) fn print_unreadable<R: Eprint>(rt: &R, path: &str, error: Option<io::Error>) {
     let path = plain(path);
     let _ = match error {
         Some(error) => eprintln!(rt; "rdump: {path}: {error}"),
         None => eprintln!(rt; "rdump: {path}: it could not be read"),
     };
-    ExitStatus::StartupError
 }
 
-/// Prints that a file could not be read again as it was, and returns `Abnormal`.
-pub(crate) fn print_changed<R: Eprint>(rt: &R, paths: &[ReelPath], reel: usize) -> ExitStatus {
+/// Prints that a file could not be read again as it was.
+pub(crate) fn print_changed<R: Eprint>(rt: &R, paths: &[ReelPath], reel: usize) {
     let path = plain(path_of(paths, reel));
     let _ = eprintln!(rt;
         "rdump: {path}: it was changed or could not be read again: the payload is not whole"
     );
-    ExitStatus::Abnormal
 }
 
-/// Prints that standard output could not be written, and returns the exit status. If its reader
-/// closed it, prints nothing.
-pub(crate) fn print_unwritten<R: Eprint>(rt: &R, error: Option<io::Error>) -> ExitStatus {
+/// Prints that standard output could not be written. If its reader closed it, prints nothing.
+pub(crate) fn print_unwritten<R: Eprint>(rt: &R, error: Option<io::Error>) {
     match error {
-        Some(error) if error.kind() == ErrorKind::BrokenPipe => return ExitStatus::Success,
+        Some(error) if error.kind() == ErrorKind::BrokenPipe => {}
         Some(error) => {
             let _ = eprintln!(rt;
                 "rdump: standard output could not be written: {error}: the payload is not whole"
@@ -106,5 +115,4 @@ pub(crate) fn print_unwritten<R: Eprint>(rt: &R, error: Option<io::Error>) -> Ex
             );
         }
     }
-    ExitStatus::StartupError
 }

@@ -2,7 +2,7 @@
 ghost use Rattle.std.specs.Io.{WritesAtMost};
 ghost use Rattle.std.specs.Io.KnownBytes.{Keeps, WriteAppends};
 
-use std::io::{self, Write};
+use std::io::{self, ErrorKind, Write};
 
 /// An output that remembers the error of the last write that failed.
 #[derive(Drop)]
@@ -20,6 +20,14 @@ impl<W: Write> Watched<W> {
     /// Returns the error of the last write that failed.
     pub(crate) fn fault(&self) -> Option<io::Error> {
         self.fault
+    }
+
+    /// Whether the last write that failed did so because the reader closed the output.
+    pub(crate) fn is_closed(&self) -> bool {
+        match self.fault {
+            Some(error) => error.kind() == ErrorKind::BrokenPipe,
+            None => false,
+        }
     }
 }
 

@@ -11,7 +11,6 @@ use crate::dump_command::{RunDates, dump_reported};
 use crate::dump_end::report_younger;
 use crate::dump_start::{DumpStart, refuse_files, refuse_unknown_new};
 use crate::run_limit::refuse_run;
-use crate::sums_start::report_unsummed;
 use dump_client::{Blocks, Client, ResumeFault, Run};
 use dump_run::Checkpoint;
 use exit_status::ExitStatus;
@@ -59,7 +58,7 @@ fn dump_kept<R: ClientSystem, M: Medium + Drop, T: Write + Copy + Drop>(
     path: &str,
     run: Run,
     payload: PayloadFile<M>,
-    start: &DumpStart,
+    start: &mut DumpStart,
     terminal: Option<T>,
 ) -> ExitStatus
     requires { IsRunsPayload run payload }
@@ -78,7 +77,7 @@ fn dump_from_start<R: ClientSystem, M: Medium + Drop, T: Write + Copy + Drop>(
     line: &DumpLine<'_>,
     run: Run,
     payload: PayloadFile<M>,
-    start: &DumpStart,
+    start: &mut DumpStart,
     file: ReplacedFile<'_, R>,
     terminal: Option<T>,
 ) -> ExitStatus
@@ -86,7 +85,7 @@ fn dump_from_start<R: ClientSystem, M: Medium + Drop, T: Write + Copy + Drop>(
 {
     let dates = dates_of(&run);
     let gauge = terminal.map(|it| ProgressLine::new(rt, it));
-    match dumper_of(rt.alloc(), run, payload, gauge, line.sums.is_some()) {
+    match dumper_of(rt.alloc(), run, payload, gauge, line.catalog.is_some()) {
         Ok(mut client) => dump_held(rt, line, start, dates, None, &mut client, file, terminal),
         Err(_) => report_no_memory(rt),
     }
@@ -99,7 +98,7 @@ fn resume<R: ClientSystem, M: Medium + Drop, T: Write + Copy + Drop>(
     run: &Run,
     bytes: &[u8],
     payload: PayloadFile<M>,
-    start: &DumpStart,
+    start: &mut DumpStart,
     file: ReplacedFile<'_, R>,
     terminal: Option<T>,
 ) -> ExitStatus
@@ -120,7 +119,7 @@ fn resume_from<R: ClientSystem, M: Medium + Drop, T: Write + Copy + Drop>(
     run: &Run,
     checkpoint: Checkpoint,
     payload: PayloadFile<M>,
-    start: &DumpStart,
+    start: &mut DumpStart,
     file: ReplacedFile<'_, R>,
     terminal: Option<T>,
 ) -> ExitStatus
@@ -129,7 +128,7 @@ fn resume_from<R: ClientSystem, M: Medium + Drop, T: Write + Copy + Drop>(
     let path = line.checkpoint.unwrap_or("");
     let dates = dates_of(checkpoint.run());
     let gauge = terminal.map(|it| ProgressLine::new(rt, it));
-    let is_summed = line.sums.is_some();
+    let is_summed = line.catalog.is_some();
     let Ok(kept) = checkpoint.run().clone() else {
         return report_no_memory(rt);
     };
@@ -155,7 +154,7 @@ fn dates_of(run: &Run) -> RunDates {
 fn dump_held<R: ClientSystem, B: Blocks, T: Write + Copy + Drop>(
     rt: &R,
     line: &DumpLine<'_>,
-    start: &DumpStart,
+    start: &mut DumpStart,
     dates: RunDates,
     goes_on: Option<u32>,
     client: &mut Client<Summed<B>>,
@@ -176,11 +175,11 @@ fn dump_held<R: ClientSystem, B: Blocks, T: Write + Copy + Drop>(
 }
 
 /// Prints how much of a resumed dump of `blocks` blocks is counted, and whether its payload is
-/// younger than the checkpoint. Fails only if an allocation fails.
+/// younger than the checkpoint, which is noted in `start`. Fails only if an allocation fails.
 fn report_going_on<R: ClientSystem, B: Blocks>(
     rt: &R,
     line: &DumpLine<'_>,
-    start: &DumpStart,
+    start: &mut DumpStart,
     client: &Client<B>,
     blocks: u32,
     file: &ReplacedFile<'_, R>,
@@ -188,9 +187,10 @@ fn report_going_on<R: ClientSystem, B: Blocks>(
     let volumes = client.counted().len();
     let (_, counted) = client.checkpoint();
     let _ = eprintln!(rt; "going on: {volumes} volumes, {counted} blocks of {blocks} counted");
-    report_unsummed(rt, start, client);
     let path = line.checkpoint.unwrap_or("");
-    report_younger(rt, line, start, path, file.modified())
+    start.is_resumed = true;
+    start.is_younger = report_younger(rt, line, start, path, file.modified())?;
+    Ok(())
 }
 
 /// Prints why the bytes of the checkpoint file at this path are not a checkpoint, and returns the

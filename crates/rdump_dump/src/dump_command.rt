@@ -5,13 +5,13 @@
 ghost use Rattle.std.specs.Prelude.{◌≡◌, IfErr, IfSome};
 ghost use Rattle.exit_status.specs.declared.status.ExitStatus.TheVariants.{StartupError};
 
+use crate::catalog_start::{begin_catalog, refuse_catalog};
 use crate::checkpoint_dump::dump_from;
 use crate::checkpoint_file::CheckpointFile;
 use crate::dump_end::report_end;
 use crate::dump_start::{DumpStart, refuse_files, refuse_unknown_new};
 use crate::dumping::run_kept;
 use crate::run_limit::refuse_run;
-use crate::sums_start::refuse_sums;
 use dump_client::{Blocks, Client};
 use dumpdates::DatesFault;
 use exit_status::ExitStatus;
@@ -36,7 +36,7 @@ use volume_sum::Summed;
 ///
 /// A payload that is a regular file or a block device is read block by block during the dump. Any
 /// other file, such as a pipe, and a regular file that reports no bytes, is read whole before the
-/// dump. Errors are found in this order: the payload, the dumpdates file, the sums file, the clock,
+/// dump. Errors are found in this order: the payload, the dumpdates file, the catalog, the clock,
 /// the limits of a run, and the checkpoint file.
 ///
 /// If a checkpoint file exists, the dump is resumed from it, with the date and the base date in it.
@@ -91,7 +91,7 @@ fn dump_medium<R: ClientSystem, M: Medium + Drop, T: Write + Copy + Drop>(
     };
     start.bytes = payload.len();
     match since_of(rt, line, start) {
-        Ok(since) => match refuse_sums(rt, line, start) {
+        Ok(since) => match refuse_catalog(rt, line, start) {
             None => dump_since(rt, line, payload, start, since, terminal),
             Some(status) => status,
         },
@@ -222,8 +222,9 @@ fn dated<'a>(line: &DumpLine<'a>, date: u64) -> DumpLine<'a> {
     }
 }
 
-/// Prints what is known before the first attempt, has a client dump that keeps its checkpoint in
-/// `file`, and prints what a restore of a complete dump needs. Returns the exit status.
+/// Prints what is known before the first attempt, begins the dump in its catalog, has a client dump
+/// that keeps its checkpoint in `file`, and prints what a restore of a complete dump needs. Returns
+/// the exit status.
 pub(crate) fn dump_reported<R: ClientSystem, B: Blocks, T: Write + Copy + Drop>(
     rt: &R,
     line: &DumpLine<'_>,
@@ -236,7 +237,18 @@ pub(crate) fn dump_reported<R: ClientSystem, B: Blocks, T: Write + Copy + Drop>(
     if let Err(error) = report_first(rt, line, start, dates, terminal.is_some()) {
         return report(rt, line.dumpdates, error);
     }
-    let dumped = run_kept(rt, &dated(line, dates.date), client, file, terminal);
+    let catalog = match begin_catalog(rt, line, start, client, terminal) {
+        Ok(catalog) => catalog,
+        Err(status) => return status,
+    };
+    let dumped = run_kept(
+        rt,
+        &dated(line, dates.date),
+        client,
+        file,
+        catalog,
+        terminal,
+    );
     if dumped.is_complete {
         report_end(rt, line, start, client);
     }

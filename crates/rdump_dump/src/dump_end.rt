@@ -52,21 +52,24 @@ fn report_change<R: Eprint>(rt: &R, path: &str, look: &PayloadLook) {
     };
 }
 
-/// Prints that the payload was written to after the checkpoint at `path`, if so. `kept` is when the
-/// checkpoint was written. Fails only if an allocation fails.
+/// Prints that the payload was written to after the checkpoint at `path`, and returns true, if so.
+/// `kept` is when the checkpoint was written. Fails only if an allocation fails.
 pub(crate) fn report_younger<R: ClientSystem>(
     rt: &R,
     line: &DumpLine<'_>,
     start: &DumpStart,
     path: &str,
     kept: Option<SystemTime>,
-) -> io::Result<()> {
+) -> io::Result<bool> {
     let (Some(look), Some(kept)) = (&start.look, kept) else {
-        return Ok(());
+        return Ok(false);
     };
     match look.modified() {
-        Some(written) if written > kept => report_times(rt, line.payload, written, path, kept),
-        _ => Ok(()),
+        Some(written) if written > kept => {
+            report_times(rt, line.payload, written, path, kept)?;
+            Ok(true)
+        }
+        _ => Ok(false),
     }
 }
 

@@ -12,7 +12,6 @@ use std::alloc::Global;
 use std::fs::{File, Metadata};
 use std::io;
 use std::os::unix::fs::FileTypeExt;
-use sum_lines::Sums;
 
 /// The facts about a dump that are known before its first attempt.
 #[derive(Drop)]
@@ -28,8 +27,10 @@ pub(crate) struct DumpStart {
     /// The latest date of the entries that the dump is to replace, in seconds since 1970. It is 0
     /// without such entries.
     pub replaced: u64,
-    /// The lines of the sums file, if the dump keeps one.
-    pub sums: Option<Sums>,
+    /// Whether the dump is resumed from a checkpoint.
+    pub is_resumed: bool,
+    /// Whether the payload was written to after the checkpoint from which the dump is resumed.
+    pub is_younger: bool,
 }
 
 impl DumpStart {
@@ -46,9 +47,19 @@ impl DumpStart {
             look,
             files: DumpFiles::new(rt.alloc(), &found)?,
             replaced: 0,
-            sums: None,
+            is_resumed: false,
+            is_younger: false,
         };
         Ok((file, start))
+    }
+
+    /// Whether the payload changed since the dump began, or cannot be told not to have changed. A
+    /// payload that is not a regular file is not looked at.
+    pub(crate) fn has_changed(&self) -> bool {
+        match &self.look {
+            Some(look) => self.is_younger || !matches!(look.change(), Ok(None)),
+            None => false,
+        }
     }
 
     /// Records the latest date of the entries that the dump is to replace. `file` is the bytes of
@@ -114,7 +125,7 @@ fn refuse_one<R: ClientSystem>(rt: &R, line: &DumpLine<'_>, path: &str, one: Sam
     ensures { result ≡ StartupError }
 {
     let which = match one.file {
-        DumpFile::NewDates | DumpFile::NewCheckpoint | DumpFile::NewSums => "its .new",
+        DumpFile::NewDates | DumpFile::NewCheckpoint | DumpFile::NewCatalog => "its .new",
         _ => "it",
     };
     let other = name_of(one.other);
@@ -132,8 +143,8 @@ fn name_of(file: DumpFile) -> &'static str {
         DumpFile::NewDates => "the .new of the dumpdates file",
         DumpFile::Checkpoint => "the checkpoint file",
         DumpFile::NewCheckpoint => "the .new of the checkpoint file",
-        DumpFile::Sums => "the sums file",
-        DumpFile::NewSums => "the .new of the sums file",
+        DumpFile::Catalog => "the catalog",
+        DumpFile::NewCatalog => "the .new of the catalog",
     }
 }
 
@@ -144,7 +155,7 @@ fn path_of<'a>(line: &DumpLine<'a>, file: DumpFile) -> Option<&'a str> {
         DumpFile::Payload => Some(line.payload),
         DumpFile::Dates | DumpFile::NewDates => Some(line.dumpdates),
         DumpFile::Checkpoint | DumpFile::NewCheckpoint => line.checkpoint,
-        DumpFile::Sums | DumpFile::NewSums => line.sums,
+        DumpFile::Catalog | DumpFile::NewCatalog => line.catalog,
     }
 }
 

@@ -8,9 +8,9 @@ ghost use Rattle.rdump_net.specs.declared.conclusion.Conclusion.TheVariants as e
 ghost use Rattle.rdump_dump.specs.Status.{IsDumpStatus, IsEndStatus};
 
 use crate::asking::Asking;
+use crate::catalog_file::CatalogFile;
 use crate::checkpoint_file::CheckpointFile;
 use crate::reporting_peer::ReportingPeer;
-use crate::sums_file::SumsFile;
 use dump_client::{Blocks, Client};
 use dumpdates::DatesFault;
 use exit_status::ExitStatus;
@@ -29,10 +29,10 @@ use volume_sum::Summed;
 /// possible answers are shown there after each question. Standard error reports why attempts
 /// failed. If `line` asks for `protect`, it must have the date of the dump.
 ///
-/// If `line` names a sums file, it gets a line for each counted volume.
+/// It enters nothing in a catalog.
 ///
 /// Returns the exit status: `Success` if the run is finished, everything was printed, and the dump
-/// and the sums are entered if `line` asks for that. Returns `Abnormal` otherwise.
+/// is entered if `line` asks for that. Returns `Abnormal` otherwise.
 pub fn run_client<R: ClientSystem, B: Blocks, T: Write + Copy + Drop>(
     rt: &R,
     line: &DumpLine<'_>,
@@ -43,7 +43,8 @@ pub fn run_client<R: ClientSystem, B: Blocks, T: Write + Copy + Drop>(
     // finished.
     ensures { IsDumpStatus client.new.at result }
 {
-    run_kept(rt, line, client, CheckpointFile::none(), terminal).status
+    let (file, catalog) = (CheckpointFile::none(), CatalogFile::none(rt));
+    run_kept(rt, line, client, file, catalog, terminal).status
 }
 
 /// How a dump ended.
@@ -58,16 +59,18 @@ pub(crate) struct Dumped {
 /// Has a client dump to the server that `line` names, and keeps its checkpoint in `file`. The file
 /// is removed once the dump is complete and, if `line` asks for that, entered. It is also removed
 /// if the dump is abandoned. Standard error reports why a checkpoint could not be written or
-/// removed. If `line` names a sums file, it gets a line for each counted volume. `terminal` is
-/// standard error, if that is a terminal.
+/// removed. `catalog` gets a line for each counted volume, and one for a complete dump before the
+/// dump is entered. `terminal` is standard error, if that is a terminal.
 ///
-/// The exit status is `Success` if the run is finished, everything was printed, the dump and the
-/// sums are entered if `line` asks for that, and `file` is removed. It is `Abnormal` otherwise.
+/// The exit status is `Success` if the run is finished, everything was printed, the dump is entered
+/// if `line` asks for that, `catalog` has all lines, and `file` is removed. It is `Abnormal`
+/// otherwise.
 pub(crate) fn run_kept<R: ClientSystem, B: Blocks, T: Write + Copy + Drop>(
     rt: &R,
     line: &DumpLine<'_>,
     client: &mut Client<Summed<B>>,
     mut file: CheckpointFile<'_, R>,
+    mut catalog: CatalogFile<'_, R, T>,
     terminal: Option<T>,
 ) -> Dumped
     ensures { IsDumpStatus client.new.at result.status }
@@ -78,7 +81,6 @@ pub(crate) fn run_kept<R: ClientSystem, B: Blocks, T: Write + Copy + Drop>(
         lines: io::writer(rt),
         terminal,
     });
-    let mut sums = SumsFile::new(rt, line.sums, terminal);
     let end = dump_booked(
         rt.alloc(),
         client,
@@ -86,25 +88,28 @@ pub(crate) fn run_kept<R: ClientSystem, B: Blocks, T: Write + Copy + Drop>(
         &mut operator,
         &mut out,
         &mut file,
-        &mut sums,
+        &mut catalog,
     );
+    if end == Conclusion::Complete {
+        catalog.finish(client);
+    }
     let status = end_kept(rt, line, client, end, &mut out, &mut file);
-    let status = status_with_sums(rt, status, sums.has_all());
+    let status = status_with_catalog(rt, status, catalog.has_all());
     Dumped {
         status: report_failures(rt, out.failures(), status),
         is_complete: end == Conclusion::Complete,
     }
 }
 
-/// Returns `status` if the sums file has all lines. Otherwise prints that it has not, and returns
-/// `Abnormal`.
-fn status_with_sums<R: Eprint>(rt: &R, status: ExitStatus, has_all: bool) -> ExitStatus
+/// Returns `status` if the catalog has all lines of the dump. Otherwise prints that it has not, and
+/// returns `Abnormal`.
+fn status_with_catalog<R: Eprint>(rt: &R, status: ExitStatus, has_all: bool) -> ExitStatus
     ensures { (result ≡ status) ⊎ (result ≡ Abnormal) }
 {
     if has_all {
         return status;
     }
-    let _ = eprintln!(rt; "sums not complete");
+    let _ = eprintln!(rt; "catalog not complete");
     ExitStatus::Abnormal
 }
 

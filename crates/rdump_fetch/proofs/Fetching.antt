@@ -23,7 +23,7 @@ use Rattle.rdump_net.specs.Sink.Takes.{nothing, accepted, stopped}
 use Rattle.rdump_net.specs.declared.fault.ReadFault.{ReadFault}
 use Rattle.rdump_net.specs.declared.volume.AfterVolume.{AfterVolume}
 use Rattle.rdump_net.specs.declared.volume.AfterVolume.TheVariants.{Stay, Offline}
-use Rattle.sum_lines.specs.SumLine.{PlainSumLine}
+use Rattle.catalog.specs.declared.line.CatalogLine.{CatalogLine}
 use Rattle.volume_sum.specs.Volume.{file_sum}
 use Rattle.rdump_sums.specs.Comparing.{Compared, ComparedStep}
 use Rattle.rdump_sums.specs.ComparedVolume.{HasNotDiffered, PassesOn, volume_calls, volume_entries}
@@ -128,7 +128,7 @@ abbrev pub PassesAll : {S : Type 0} → (S → S → SinkCall → Bool → Type 
 PassesAll {S} takes = (s t : Compared S) (calls : List SinkCall) (whole : Bool) → Takes (ComparedStep takes) s t calls whole → PassesOn takes s t calls whole
 
 abbrev pub ComparesAll : {S : Type 0} → (S → S → SinkCall → Bool → Type 0) → Type 0
-ComparesAll {S} takes = (s t : Compared S) (lines : List PlainSumLine) (l : PlainLabel) (more : List (List ℕ)) → s.sums ≡ Some lines → IsLabel l
+ComparesAll {S} takes = (s t : Compared S) (lines : List CatalogLine) (l : PlainLabel) (more : List (List ℕ)) → s.sums ≡ Some lines → IsLabel l
     → All IsRecord (label_record l ∷ more) → Takes (ComparedStep takes) s t (volume_calls l more) true
     → HasNotDiffered lines l (file_sum (volume_entries l more)) t
 

@@ -12,7 +12,7 @@ use Rattle.rdump_net.specs.Ends.{SinkEnds, SinkKind}
 use Rattle.rdump_net.specs.Reading.{IsRead, next_of}
 use Rattle.rdump_net.specs.declared.fault.ReadFault.{ReadFault}
 use Rattle.rdump_net.specs.declared.volume.AfterVolume.TheVariants.{Offline}
-use Rattle.sum_lines.specs.SumLine.{PlainSumLine}
+use Rattle.catalog.specs.declared.line.CatalogLine.{CatalogLine}
 use Rattle.volume_sum.specs.Volume.{file_sum}
 use Rattle.rdump_sums.specs.Comparing.{Compared}
 use Rattle.rdump_sums.specs.ComparedVolume.{HasNotDiffered}
@@ -26,15 +26,15 @@ entries_read ([] ∷ records) = Mark ∷ []
 entries_read ((b ∷ bytes) ∷ records) = Record (b ∷ bytes) ∷ entries_read records
 
 -- The records that were read begin with a label, and the copy of this label is kept: it is the
--- record file of the entries that were read. If there is a sums file, its lines have the label and
--- the sum of this record file, or no line has the label.
+-- record file of the entries that were read. If there is a catalog, its verdict on the label and
+-- the sum of this record file is `Equal` or `Unknown`.
 pub record HasKeptCopy {F : Type 0} (k : CopyKind F) (s t : Compared F) (records : List (List ℕ)) : Type 0 where
   pub label : PlainLabel
   pub is_label : IsLabel label
   pub more : List (List ℕ)
   pub begins : records ≡ label_record label ∷ more
   pub copied : (before : Option PlainCopy) → k.holds s.sink before → k.kept t.sink (plain_copy label (images_of (entries_read records)))
-  pub compared : (lines : List PlainSumLine) → s.sums ≡ Some lines → HasNotDiffered lines label (file_sum (entries_read records)) t
+  pub compared : (lines : List CatalogLine) → s.sums ≡ Some lines → HasNotDiffered lines label (file_sum (entries_read records)) t
 
 -- If MTOFFL is the next request after some replies, be they those that came or others, then the copy
 -- of the reel is kept.

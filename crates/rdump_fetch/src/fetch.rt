@@ -17,8 +17,8 @@ use std::alloc::Global;
 /// kept.
 ///
 /// It makes the requests of `rdump_net::copy_volume` with `AfterVolume::Offline`. The reel moves only
-/// if a mark was found after its records, its sum does not differ from the lines that `sink` has for
-/// its label, and the copy is kept. Otherwise it stays. What follows the mark is not read.
+/// if a mark was found after its records, the verdict of the catalog that `sink` has is `Equal` or
+/// `Unknown`, and the copy is kept. Otherwise it stays. What follows the mark is not read.
 ///
 /// The device is one line of at most `LINE_LIMIT` bytes. `ReadFault` lists the errors. With `Stopped`
 /// the sink keeps why.
@@ -35,8 +35,9 @@ pub fn fetch_reel<P: Peer, F: CopyFile>(
         (sink_ends peer.old sink.old) (sink_ends peer.new sink.new) result }
     // The call sends MTOFFL, which moves the reel to the bin, only if the first record that was
     // read is a label, and the copy of this label is kept. The copy is exactly the record file of
-    // the records that were read, followed by one mark. If there is a sums file, a line of it has
-    // the label and the sum of this record file, or no line has the label.
+    // the records that were read, followed by one mark. If there is a catalog, its verdict on the
+    // label and the sum of this record file is `Equal` or `Unknown`: a line in force has both, or
+    // no line in force has the label, and no other line has both.
     ensures kept { IsTakenAwayOnlyIfCopied (sink_kind P.tells (ComparedStep (CopyStep (copy_kind F.holds F.synced F.placed F.kept))))
         (copy_kind F.holds F.synced F.placed F.kept) device.now (sink_ends peer.old sink.old) (sink_ends peer.new sink.new) result }
 {

@@ -22,10 +22,10 @@ pub enum DumpFile {
     Checkpoint,
     /// The new file that replaces the checkpoint file.
     NewCheckpoint,
-    /// The sums file.
-    Sums,
-    /// The new file that replaces the sums file.
-    NewSums,
+    /// The catalog.
+    Catalog,
+    /// The new file that replaces the catalog.
+    NewCatalog,
 }
 
 /// Two of the files of a dump that are the same file.
@@ -175,21 +175,21 @@ impl DumpFiles {
         self.add(DumpFile::NewCheckpoint, new)
     }
 
-    /// Adds the sums file at this path to the list, and also the new file that will replace the
-    /// sums file. The result is like that of `add_dates`.
-    pub fn add_sums<R: Files<File = File>>(
+    /// Adds the catalog at this path to the list, and also the new file that will replace the
+    /// catalog. The result is like that of `add_dates`.
+    pub fn add_catalog<R: Files<File = File>>(
         &mut self,
         rt: &R,
         alloc: Global,
         path: &str,
     ) -> io::Result<Option<SameFile>> {
-        let sums = FileId::of_path(rt, alloc, path)?;
-        let same = self.add(DumpFile::Sums, sums)?;
+        let catalog = FileId::of_path(rt, alloc, path)?;
+        let same = self.add(DumpFile::Catalog, catalog)?;
         if same.is_some() {
             return Ok(same);
         }
         let new = FileId::of_new(rt, alloc, path)?;
-        self.add(DumpFile::NewSums, new)
+        self.add(DumpFile::NewCatalog, new)
     }
 
     /// Adds a file, if it has an identity and differs from all that were added before. Otherwise

@@ -4,6 +4,7 @@ use crate::files::read_rest;
 use crate::left::{is_left_checkpoint, is_left_dates};
 use crate::named::{folder_of, named_file};
 use crate::payload_look::is_one;
+use catalog::is_left_catalog;
 use std::alloc::Global;
 use std::fs::{self, File, Metadata, OpenOptions, TryLockError};
 use std::io::{self, ErrorKind, Write};
@@ -13,7 +14,6 @@ use std::path::PathBuf;
 use std::rt::Files;
 use std::thread;
 use std::time::{Clock, Duration, Instant, SystemTime};
-use sum_lines::is_left_sums;
 
 /// How long a run waits for another run that has the new file, in seconds.
 const WAIT_SECONDS: u64 = 10;
@@ -33,7 +33,7 @@ const NOT_LEFT: &str = "its .new is not one that rdump left: it is not touched";
 /// The mode of a checkpoint file: only its user may read it.
 const CHECKPOINT_MODE: u32 = 0o600;
 
-/// The mode with which a new dumpdates file or sums file is created, less the process's umask.
+/// The mode with which a new dumpdates file or catalog is created, less the process's umask.
 const USUAL_MODE: u32 = 0o666;
 
 /// The text that a replaced file contains.
@@ -44,14 +44,14 @@ pub(crate) enum Form {
     /// The text of a checkpoint.
     Checkpoint,
     /// The text of sum lines.
-    Sums,
+    Catalog,
 }
 
 impl Form {
     /// Returns the mode with which the new file is created.
     fn mode(self) -> u32 {
         match self {
-            Form::Dates | Form::Sums => USUAL_MODE,
+            Form::Dates | Form::Catalog => USUAL_MODE,
             Form::Checkpoint => CHECKPOINT_MODE,
         }
     }
@@ -66,7 +66,7 @@ impl Form {
         let may_be_leftover = match self {
             Form::Dates => is_left_dates(alloc, &bytes)?,
             Form::Checkpoint => is_left_checkpoint(alloc, &bytes)?,
-            Form::Sums => is_left_sums(alloc, &bytes)?,
+            Form::Catalog => is_left_catalog(alloc, &bytes)?,
         };
         Ok(may_be_leftover)
     }
@@ -286,7 +286,7 @@ impl<'a, R: Files<File = File>> NewFile<'a, R> {
     }
 
     /// Gives the new file the owner and group of the other, or the group alone, if the other exists
-    /// and the system allows it. A new dumpdates file or sums file also gets its mode; a checkpoint
+    /// and the system allows it. A new dumpdates file or catalog also gets its mode; a checkpoint
     /// keeps the mode with which it was created.
     fn take_rights(&self) {
         let Ok(found) = fs::metadata(self.rt, &self.named) else {

@@ -50,7 +50,7 @@ impl From<AllocError> for DumperFault {
 /// `since` the date of the dump that it builds on, both in seconds since 1970, UTC. The payload
 /// must have been opened in blocks of the size that the arguments give. The gauge gets the number
 /// of blocks, and shows each block that is read. The client's source sums each volume if the
-/// arguments name a sums file.
+/// arguments name a catalog.
 ///
 /// Returns `Run` with the first limit of a run that is violated, or `OutOfMemory` if an allocation
 /// fails.
@@ -73,7 +73,7 @@ pub fn dumper<M: Medium + Drop, G: Gauge + Drop>(
     ensures refused { IfErr result (IsRefusedRun (line_run line.now date since payload.len)) }
 {
     match run_of(line, date, since, &payload) {
-        Ok(run) => Ok(dumper_of(alloc, run, payload, gauge, line.sums.is_some())?),
+        Ok(run) => Ok(dumper_of(alloc, run, payload, gauge, line.catalog.is_some())?),
         Err(fault) => Err(DumperFault::Run(fault)),
     }
 }

@@ -21,10 +21,10 @@ use std::time::{Clock, SystemTime};
 /// to.
 ///
 /// It removes a new file that another run left, if that contains a beginning of what is written
-/// there: dumpdates, sum lines or a checkpoint. Any other file with that name stays, and the
+/// there: dumpdates, the lines of a catalog or a checkpoint. Any other file with that name stays, and the
 /// replacement then fails.
 ///
-/// A file made by `new` is dumpdates, and one made by `of_sums` is a sums file. Reading either
+/// A file made by `new` is dumpdates, and one made by `of_catalog` is a catalog. Reading either
 /// first creates the new file and locks it, until the text is in place or this is dropped. The read
 /// and the replacement are thus one step among any number of runs.
 ///
@@ -49,10 +49,10 @@ impl<'a, R: Files<File = File> + Clock> ReplacedFile<'a, R> {
         ReplacedFile::with_form(rt, alloc, path, Form::Dates)
     }
 
-    /// Makes a `ReplacedFile` for the sums file at this path. The file need not exist. It is locked
-    /// from a read until it is replaced.
-    pub fn of_sums(rt: &'a R, alloc: Global, path: &'a str) -> Self {
-        ReplacedFile::with_form(rt, alloc, path, Form::Sums)
+    /// Makes a `ReplacedFile` for the catalog at this path. The file need not exist. It is locked from
+    /// a read until it is replaced.
+    pub fn of_catalog(rt: &'a R, alloc: Global, path: &'a str) -> Self {
+        ReplacedFile::with_form(rt, alloc, path, Form::Catalog)
     }
 
     /// Makes a `ReplacedFile` for the checkpoint file at this path. The file need not exist. It is
@@ -141,7 +141,7 @@ impl<'a, R: Files<File = File> + Clock> ReplacedFile<'a, R> {
     /// Reads the file under its lock, and keeps the lock.
     fn read_locked(&mut self, alloc: Global) -> io::Result<Option<Vec<u8>>> {
         match self.form {
-            Form::Dates | Form::Sums => self.read_beside_new(alloc),
+            Form::Dates | Form::Catalog => self.read_beside_new(alloc),
             Form::Checkpoint => self.read_placed(alloc),
         }
     }
@@ -168,7 +168,7 @@ impl<'a, R: Files<File = File> + Clock> ReplacedFile<'a, R> {
     fn put(&mut self, text: &[u8]) -> io::Result<()> {
         let mut new = self.take_new()?;
         match self.form {
-            Form::Dates | Form::Sums => put_unlocked(new, text),
+            Form::Dates | Form::Catalog => put_unlocked(new, text),
             Form::Checkpoint => {
                 new.check_place(self.placed.as_ref())?;
                 new.put(text)?;

@@ -1,4 +1,4 @@
-//! Compares a record file with the lines of a sums file.
+//! Compares a record file with a catalog.
 ghost use Rattle.std.specs.Prelude.{◌≡◌, ◌<◌, List, ℕ, IfOk, IfSome, IsNone, OnErr, OnOk, length};
 ghost use Rattle.tape.specs.Tape.{PlainEntry};
 ghost use Rattle.tape.specs.Failures.{HasRisen, Steps};
@@ -8,15 +8,15 @@ ghost use Rattle.dump_run.specs.Label.{PlainLabel};
 ghost use Rattle.rdump_list.specs.ComparedReel.{IsReelCompared, IsWholeVolume};
 
 use crate::verdict::is_one_mark;
+use catalog::{Catalog, SumVerdict};
 use dump_run::VolumeLabel;
 use reel_check::{Holding, ReelContents, check_reel};
-use sum_lines::{SumVerdict, Sums};
 use tape::{Medium, MediumFailed};
 use volume_sum::medium_sum;
 
 /// Reads a reel, as `check_reel` does, and compares the SHA-256 of the reel's bytes with the lines
-/// for the reel's volume in a sums file. Returns what the reel holds, and what the comparison
-/// found. If the reel is not whole, nothing is compared.
+/// of a catalog. Returns what the reel holds, and what the comparison found. If the reel is not
+/// whole, nothing is compared.
 ///
 /// The bytes of each record are read, in pieces as long as `room`, so that a read error of the disk
 /// is noticed. `room` must not be empty. The medium is not changed. Allocates nothing.
@@ -25,16 +25,16 @@ use volume_sum::medium_sum;
 pub fn compare_reel<M: Medium>(
     medium: &mut M,
     room: &mut [u8],
-    sums: &Sums,
+    catalog: &Catalog,
 ) -> Result<(ReelContents, Option<SumVerdict>), MediumFailed>
     requires { 0 < length room.old }
     // The following promises hold if the medium's contract says which bytes the reel contains. If
     // the call succeeds, it returns what `check_reel` returns. The call also returns a `SumVerdict`
     // if and only if the reel is a whole volume with one mark and no bytes after the mark. For the
-    // `SumVerdict`, the call compares the SHA-256 of all bytes of the reel with the lines for the
-    // volume's label.
+    // `SumVerdict`, the call compares the volume's label and the SHA-256 of all bytes of the reel
+    // with the lines of the catalog, as `Catalog::compare` does.
     ensures compared { (bytes : List ℕ) (entries : List PlainEntry) → M.holds medium.old bytes → SpellsReel bytes entries →
-        IfOk result (λ found. IsContents found.0 bytes entries × IsReelCompared sums.now bytes found.0 found.1) }
+        IfOk result (λ found. IsContents found.0 bytes entries × IsReelCompared catalog.now bytes found.0 found.1) }
     // If the medium's contract says which bytes the reel contains, the call does not change these
     // bytes.
     ensures same { Steps M.holds medium.old medium.new (λ old new. new ≡ old) }
@@ -48,7 +48,7 @@ pub fn compare_reel<M: Medium>(
 {
     let contents = check_reel(medium, &mut [])?;
     let verdict = match whole_label(&contents) {
-        Some(label) => Some(sums.compare(label, &medium_sum(medium, room)?)),
+        Some(label) => Some(catalog.compare(label, &medium_sum(medium, room)?)),
         None => {
             // The bytes of the records are read too.
             check_reel(medium, room)?;

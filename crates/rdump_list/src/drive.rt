@@ -2,9 +2,10 @@
 ghost use Rattle.dump_run.specs.Run.{IsDevice};
 
 use crate::ListSystem;
+use crate::catalog_file::compare;
 use crate::drive_reel::{DriveEntries, DriveReel, read_drive};
 use crate::reel::{ListedReel, Source};
-use crate::sums::compare;
+use catalog::Catalog;
 use printable::plain;
 use rdump_net::SocketPeer;
 use reel_check::ReelContents;
@@ -12,9 +13,8 @@ use remote_tape::{CallFault, FaultReport, TapeCause, TapeFault};
 use std::alloc::AllocError;
 use std::io::{self, Write};
 use std::time::Duration;
-use sum_lines::Sums;
 
-/// Reads the first reel on the stack of this drive, and compares it with `sums`, if given.
+/// Reads the first reel on the stack of this drive, and compares it with `catalog`, if given.
 /// `timeout` limits each wait for the server. `terminal` shows how far the read is, if there is
 /// one. If there is no session, it prints why and returns None. Fails if an allocation fails.
 pub(crate) fn drive_reel<R: ListSystem, T: Write + Drop>(
@@ -22,17 +22,17 @@ pub(crate) fn drive_reel<R: ListSystem, T: Write + Drop>(
     to: &str,
     device: &str,
     timeout: Option<Duration>,
-    sums: Option<&Sums>,
+    catalog: Option<&Catalog>,
     terminal: Option<T>,
 ) -> Result<Option<ListedReel>, AllocError>
     requires { IsDevice device.now }
 {
     let mut peer = SocketPeer::new(rt, to, timeout);
-    let mut reel = DriveReel::new(rt, sums.is_some(), terminal);
+    let mut reel = DriveReel::new(rt, catalog.is_some(), terminal);
     let read = read_drive(rt.alloc(), &mut peer, device.as_bytes(), &mut reel);
     let entries = reel.into_entries();
     match read {
-        Ok(None) => Ok(Some(reel_of(rt, device, entries, sums, Source::Drive)?)),
+        Ok(None) => Ok(Some(reel_of(rt, device, entries, catalog, Source::Drive)?)),
         Ok(Some(why)) => {
             let source = Source::Undetermined(why);
             Ok(Some(reel_of(rt, device, entries, None, source)?))
@@ -65,12 +65,12 @@ fn report_fault<'a, R: ListSystem>(
     let _ = eprintln!(rt; "rdump: {to}: {report}");
 }
 
-/// Makes the listed reel of this drive from its entries, and compares it with `sums`, if given.
+/// Makes the listed reel of this drive from its entries, and compares it with `catalog`, if given.
 fn reel_of<R: ListSystem>(
     rt: &R,
     device: &str,
     entries: DriveEntries,
-    sums: Option<&Sums>,
+    catalog: Option<&Catalog>,
     source: Source,
 ) -> Result<ListedReel, AllocError> {
     let DriveEntries { tally, hasher } = entries;
@@ -82,8 +82,8 @@ fn reel_of<R: ListSystem>(
         bytes: 0,
         tail: 0,
     };
-    let sum = match (hasher, sums) {
-        (Some(hasher), Some(sums)) => compare(&contents, hasher, sums),
+    let sum = match (hasher, catalog) {
+        (Some(hasher), Some(catalog)) => compare(&contents, hasher, catalog),
         _ => None,
     };
     Ok(ListedReel {

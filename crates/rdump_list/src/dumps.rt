@@ -1,5 +1,6 @@
 //! The dumps of a dumpdates file, and what was found of them.
 use crate::ListSystem;
+use crate::dated::push_date;
 use crate::dump_found::DumpFound;
 use crate::fault::report;
 use crate::printer::Printer;
@@ -69,7 +70,8 @@ fn print_dump<W: Write>(
     let mut line = Vec::new(alloc);
     line.extend_from_slice(entry.name.as_bytes())?;
     push_count(&mut line, b" level ", u64::from(entry.level), b"")?;
-    push_count(&mut line, b" date ", entry.date, b": ")?;
+    push_date(&mut line, b" date ", entry.date)?;
+    line.extend_from_slice(b": ")?;
     found.push(&mut line, blocks)?;
     line.extend_from_slice(b"\n")?;
     out.print(&line)

@@ -4,8 +4,10 @@
 //! `run_ls` is the whole command; it uses the runtime through `ListSystem`. It reads record files
 //! in place, and the first reel of a drive's stack over a connection. It writes to neither.
 //! `push_verdict` appends the verdict on a reel, and `is_whole` decides whether that is `whole`.
-//! With a sums file, `run_ls` also compares the SHA-256 of each whole reel with the lines of its
-//! volume. `compare_reel` does so with a record file.
+//! With a catalog, `run_ls` also compares the SHA-256 of each whole reel with the lines of its
+//! volume, and says of each dump what is there. `compare_reel` does the first with a record file,
+//! and `dump_in` decides the second. `push_dated_volume` appends the text of a volume with the UTC
+//! text of its dates.
 //!
 //! `ReelPaths` finds the record files that the arguments name, for other commands too. They read
 //! these files through a `MarkLimit` and a `ShownMedium`, which shows what is read by a
@@ -13,24 +15,31 @@
 //!
 //! # Contracts
 //!
-//! The *verdict* on a reel is a text that says what the reel holds. A *sums file* has lines, and
-//! each line contains the label of a volume and the SHA-256 of the volume's record file.
-//! `compare_reel` compares the SHA-256 of a reel with the lines that have the label of the reel's
-//! volume. The result is a `SumVerdict`. It is `Equal` if one of these lines has the SHA-256, and
-//! `Differs` if none has it. If no line has the label, the result is `Unknown`.
+//! The *verdict* on a reel is a text that says what the reel holds. A *catalog* has lines: a dump
+//! began, a volume with this label and this SHA-256 of its record file was counted, or a dump is
+//! finished. The line of a volume is *in force* if it follows the last line with which its dump
+//! began, and no line after it is that of the same volume of the dump, or of an earlier one.
+//! `compare_reel` compares the SHA-256 of a reel with the lines of its volume. The result is a
+//! `SumVerdict`.
 #![tactic(auto)]
 
+mod catalog_dump;
+mod catalog_dumps;
+mod catalog_file;
 mod compared_reel;
+mod dated;
 mod drive;
 mod drive_reel;
 mod dump_found;
 mod dumps;
 mod fault;
 mod folder;
+mod judged_reel;
 mod line;
 mod list_command;
 mod lister;
 mod mark_limit;
+mod missing;
 mod order;
 mod printer;
 mod progress;
@@ -38,14 +47,18 @@ mod reel;
 mod reel_paths;
 mod shown_medium;
 mod status;
-mod sums;
 mod system;
 mod undetermined;
 mod verdict;
 
+pub use catalog_dump::{CatalogDump, dump_in};
+pub use catalog_file::read_catalog;
 pub use compared_reel::compare_reel;
+pub use dated::{push_date, push_dated_id, push_dated_volume};
+pub use judged_reel::JudgedReel;
 pub use list_command::run_ls;
 pub use mark_limit::MarkLimit;
+pub use missing::VolumeRange;
 pub use progress::ListProgress;
 pub use reel_paths::{ReelPath, ReelPaths, open_plain};
 pub use shown_medium::ShownMedium;

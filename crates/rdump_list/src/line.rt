@@ -1,10 +1,10 @@
 //! The line that is printed for a reel.
+use crate::dated::push_dated_volume;
 use crate::reel::{ListedReel, Source};
 use crate::verdict::{push_count, push_verdict};
 use printable::plain_char;
 use reel_check::{Holding, ReelContents};
 use std::alloc::AllocError;
-use sum_lines::push_volume;
 
 /// Appends the line of a reel, with its line feed: its path, what it contains, and the verdict on
 /// it. Fails if an allocation fails.
@@ -29,7 +29,7 @@ pub(crate) fn push_line(text: &mut Vec<u8>, reel: &ListedReel) -> Result<(), All
     text.extend_from_slice(b"\n")
 }
 
-/// Appends what the comparison with a sums file found, if there was one.
+/// Appends what the comparison with a catalog found, if there was one.
 fn push_sum(text: &mut Vec<u8>, reel: &ListedReel) -> Result<(), AllocError> {
     let Some(verdict) = reel.sum else {
         return Ok(());
@@ -53,7 +53,7 @@ fn push_contents(text: &mut Vec<u8>, contents: &ReelContents) -> Result<(), Allo
     match &contents.holding {
         Holding::Empty => {}
         Holding::Volume(volume) => {
-            push_volume(
+            push_dated_volume(
                 text,
                 &volume.label,
                 volume.blocks,
@@ -74,7 +74,7 @@ fn push_contents(text: &mut Vec<u8>, contents: &ReelContents) -> Result<(), Allo
 fn push_drive(text: &mut Vec<u8>, reel: &ListedReel) -> Result<(), AllocError> {
     match reel.volume() {
         Some(volume) => {
-            push_volume(
+            push_dated_volume(
                 text,
                 &volume.label,
                 volume.blocks,

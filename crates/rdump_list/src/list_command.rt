@@ -3,6 +3,8 @@ ghost use Rattle.dump_run.specs.Run.{IsDevice};
 ghost use Rattle.rdump_args.specs.Rdump.{IsListLine, IsListedReels};
 
 use crate::ListSystem;
+use crate::catalog_dumps::{DumpsPrinted, print_catalog_dumps};
+use crate::catalog_file::read_catalog;
 use crate::drive::drive_reel;
 use crate::dumps::{print_dumps, read_dates};
 use crate::line::push_line;
@@ -12,23 +14,23 @@ use crate::printer::Printer;
 use crate::reel::ListedReel;
 use crate::reel_paths::ReelPaths;
 use crate::status::status_of;
-use crate::sums::read_sums;
+use catalog::Catalog;
 use exit_status::ExitStatus;
 use rdump_args::{ListLine, ListedReels};
 use std::alloc::{AllocError, Global};
 use std::io::{self, Write};
 use std::time::Duration;
-use sum_lines::Sums;
 
 /// Runs `rdump ls`: prints one line for each reel, in sorted order. If a dumpdates file is given,
-/// it prints an empty line and then one line for each of its dumps. Nothing is written to a reel.
-/// `terminal` is standard error, if that is a terminal: it shows how far the list is.
+/// it prints an empty line and then one line for each of its dumps. If a catalog is given, it then
+/// prints an empty line and one line for each dump of it that the arguments name or, if they name
+/// none, of which there is a whole reel. Nothing is written to a reel. `terminal` is standard error, if that is a terminal: it shows how far the list is.
 ///
 /// Returns the exit status:
 ///
-/// - `Success` if there is a reel, all reels are whole, and no volume is missing. With a sums file,
-///   the sum of each reel must also be equal to one in that file.
-/// - `StartupError` if a file cannot be read, the sums file is not valid, there is no session with
+/// - `Success` if there is a reel or a dump that the arguments name, all reels are whole, and no
+///   volume is missing. With a catalog, the sum of each reel must also be known and not differ.
+/// - `StartupError` if a file cannot be read, the catalog is not valid, there is no session with
 ///   the drive, an allocation fails, or a write fails.
 /// - `Abnormal` otherwise.
 ///
@@ -49,7 +51,7 @@ pub fn run_ls<R: ListSystem, T: Write + Drop>(
     }
 }
 
-/// Reads the sums file, if one is given, and lists the reels. Returns the exit status. Fails if an
+/// Reads the catalog, if one is given, and lists the reels. Returns the exit status. Fails if an
 /// allocation fails.
 fn list<R: ListSystem, T: Write + Drop>(
     rt: &R,
@@ -58,21 +60,21 @@ fn list<R: ListSystem, T: Write + Drop>(
 ) -> Result<ExitStatus, AllocError>
     requires { IsListLine line.now }
 {
-    let Some(path) = line.sums else {
+    let Some(path) = line.catalog else {
         return list_reels(rt, line, None, terminal);
     };
-    match read_sums(rt, path)? {
-        Some(sums) => list_reels(rt, line, Some(&sums), terminal),
+    match read_catalog(rt, path)? {
+        Some(catalog) => list_reels(rt, line, Some(&catalog), terminal),
         None => Ok(ExitStatus::StartupError),
     }
 }
 
-/// Lists the reels, which are compared with these sums if there are any. Returns the exit status.
+/// Lists the reels, which are compared with a catalog if there is one. Returns the exit status.
 /// Fails if an allocation fails.
 fn list_reels<R: ListSystem, T: Write + Drop>(
     rt: &R,
     line: &ListLine<'_>,
-    sums: Option<&Sums>,
+    catalog: Option<&Catalog>,
     terminal: Option<T>,
 ) -> Result<ExitStatus, AllocError>
     requires { IsListLine line.now }
@@ -82,7 +84,7 @@ fn list_reels<R: ListSystem, T: Write + Drop>(
         None => None,
     };
     let are_dates_read = dates.is_some() || line.dumpdates.is_none();
-    let (mut reels, are_reels_read) = read_reels(rt, &line.reels, sums, terminal)?;
+    let (mut reels, are_reels_read) = read_reels(rt, &line.reels, catalog, terminal)?;
     sort(reels.as_mut_slice());
     let mut out = Printer::new(rt.alloc(), io::writer(rt));
     let are_good = print_reels(rt.alloc(), &mut out, &reels)?;
@@ -90,12 +92,31 @@ fn list_reels<R: ListSystem, T: Write + Drop>(
         Some(dates) => print_dumps(rt.alloc(), &mut out, &reels, dates, line.blocks)?,
         None => true,
     };
+    let printed = print_of_catalog(rt.alloc(), &mut out, catalog, line, &reels)?;
     let is_printed = end(rt, out);
     let is_done = are_dates_read && are_reels_read && is_printed;
+    let has_some = printed.has_named || has_reel(rt, &reels, are_reels_read);
     Ok(status_of(
         is_done,
-        has_reel(rt, &reels, are_reels_read) && are_good && are_complete,
+        has_some && are_good && are_complete && printed.are_complete,
     ))
+}
+
+/// Prints the dumps of a catalog, if there is one. Fails if an allocation fails.
+fn print_of_catalog<W: Write>(
+    alloc: Global,
+    out: &mut Printer<W>,
+    catalog: Option<&Catalog>,
+    line: &ListLine<'_>,
+    reels: &[ListedReel],
+) -> Result<DumpsPrinted, AllocError> {
+    match catalog {
+        Some(catalog) => print_catalog_dumps(alloc, out, catalog, line.wanted.as_ref(), reels),
+        None => Ok(DumpsPrinted {
+            has_named: false,
+            are_complete: true,
+        }),
+    }
 }
 
 /// Whether there is a reel. If there is none although everything named could be read, it prints
@@ -111,18 +132,18 @@ fn has_reel<R: ListSystem>(rt: &R, reels: &[ListedReel], are_read: bool) -> bool
 fn read_reels<R: ListSystem, T: Write + Drop>(
     rt: &R,
     reels: &ListedReels<'_>,
-    sums: Option<&Sums>,
+    catalog: Option<&Catalog>,
     terminal: Option<T>,
 ) -> Result<(Vec<ListedReel>, bool), AllocError>
     requires { IsListedReels reels.now }
 {
     match reels {
-        ListedReels::Paths(paths) => read_paths(rt, paths, sums, terminal),
+        ListedReels::Paths(paths) => read_paths(rt, paths, catalog, terminal),
         ListedReels::Drive {
             to,
             device,
             timeout,
-        } => read_first(rt, to, device, *timeout, sums, terminal),
+        } => read_first(rt, to, device, *timeout, catalog, terminal),
     }
 }
 
@@ -130,7 +151,7 @@ fn read_reels<R: ListSystem, T: Write + Drop>(
 fn read_paths<R: ListSystem, T: Write + Drop>(
     rt: &R,
     paths: &[&str],
-    sums: Option<&Sums>,
+    catalog: Option<&Catalog>,
     terminal: Option<T>,
 ) -> Result<(Vec<ListedReel>, bool), AllocError> {
     let mut found = ReelPaths::new(rt);
@@ -138,7 +159,7 @@ fn read_paths<R: ListSystem, T: Write + Drop>(
         found.add(path)?;
     }
     let (files, are_found) = found.into_paths();
-    let mut lister = Lister::new(rt, sums, terminal)?;
+    let mut lister = Lister::new(rt, catalog, terminal)?;
     for file in &files {
         lister.read(file)?;
     }
@@ -153,13 +174,13 @@ fn read_first<R: ListSystem, T: Write + Drop>(
     to: &str,
     device: &str,
     timeout: Option<Duration>,
-    sums: Option<&Sums>,
+    catalog: Option<&Catalog>,
     terminal: Option<T>,
 ) -> Result<(Vec<ListedReel>, bool), AllocError>
     requires { IsDevice device.now }
 {
     let mut reels = Vec::new(rt.alloc());
-    match drive_reel(rt, to, device, timeout, sums, terminal)? {
+    match drive_reel(rt, to, device, timeout, catalog, terminal)? {
         Some(reel) => {
             reels.push(reel)?;
             Ok((reels, true))
@@ -168,8 +189,7 @@ fn read_first<R: ListSystem, T: Write + Drop>(
     }
 }
 
-/// Prints the lines of the reels. Returns whether all are whole and, with a sums file, have equal
-/// sums.
+/// Prints the lines of the reels. Returns whether all are whole, and no sum fails the list.
 fn print_reels<W: Write>(
     alloc: Global,
     out: &mut Printer<W>,

@@ -10,11 +10,11 @@ use crate::reel::{ListedReel, Source};
 use crate::reel_paths::{ReelPath, open_plain};
 use crate::shown_medium::ShownMedium;
 use crate::undetermined::Undetermined;
+use catalog::{Catalog, SumVerdict};
 use file_medium::FileMedium;
 use reel_check::{ReelContents, check_reel};
 use std::alloc::AllocError;
 use std::io::{self, Write};
-use sum_lines::{SumVerdict, Sums};
 use tape::{Medium, MediumFailed};
 
 /// How many bytes of a record are read at once.
@@ -35,7 +35,7 @@ struct ReelFound {
 #[derive(Drop)]
 pub(crate) struct Lister<'a, R: ListSystem, W: Write + Drop> {
     rt: &'a R,
-    sums: Option<&'a Sums>,
+    catalog: Option<&'a Catalog>,
     room: Box<[u8; ROOM]>,
     progress: Option<ListProgress<'a, R, W>>,
     reels: Vec<ListedReel>,
@@ -43,12 +43,12 @@ pub(crate) struct Lister<'a, R: ListSystem, W: Write + Drop> {
 }
 
 impl<'a, R: ListSystem, W: Write + Drop> Lister<'a, R, W> {
-    /// Makes a lister that has read nothing. It compares reels with `sums`, if given. `terminal`
+    /// Makes a lister that has read nothing. It compares reels with `catalog`, if given. `terminal`
     /// shows how far it is, if there is one. It allocates 65,536 bytes. Fails if an allocation
     /// fails.
     pub(crate) fn new(
         rt: &'a R,
-        sums: Option<&'a Sums>,
+        catalog: Option<&'a Catalog>,
         terminal: Option<W>,
     ) -> Result<Self, AllocError> {
         let Ok(room) = Box::new(rt.alloc(), [0; ROOM]) else {
@@ -56,7 +56,7 @@ impl<'a, R: ListSystem, W: Write + Drop> Lister<'a, R, W> {
         };
         Ok(Lister {
             rt,
-            sums,
+            catalog,
             room,
             progress: ListProgress::at(rt, terminal),
             reels: Vec::new(rt.alloc()),
@@ -105,7 +105,7 @@ impl<'a, R: ListSystem, W: Write + Drop> Lister<'a, R, W> {
         if let Some(progress) = &mut shown.progress {
             progress.begin_reel();
         }
-        let found = check(&mut shown, &mut self.room, self.sums);
+        let found = check(&mut shown, &mut self.room, self.catalog);
         self.progress = shown.progress;
         let source = source_of(shown.medium.is_over());
         Ok(
@@ -166,14 +166,14 @@ fn source_of(is_over: bool) -> Source {
     }
 }
 
-/// Checks a reel, and compares its sum with these lines if there are any.
+/// Checks a reel, and compares its sum with a catalog if there is one.
 fn check<M: Medium>(
     medium: &mut M,
     room: &mut [u8; ROOM],
-    sums: Option<&Sums>,
+    catalog: Option<&Catalog>,
 ) -> Result<(ReelContents, Option<SumVerdict>), MediumFailed> {
-    match sums {
-        Some(sums) => compare_reel(medium, room, sums),
+    match catalog {
+        Some(catalog) => compare_reel(medium, room, catalog),
         None => Ok((check_reel(medium, room)?, None)),
     }
 }

@@ -1,8 +1,9 @@
 //! A listed reel.
+use crate::status::is_passed;
 use crate::undetermined::Undetermined;
 use crate::verdict::is_whole;
+use catalog::SumVerdict;
 use reel_check::{Holding, ReelContents, Volume, VolumeEnd};
-use sum_lines::SumVerdict;
 
 /// The source that a reel was read from.
 #[derive(Clone, Copy)]
@@ -26,7 +27,7 @@ pub(crate) struct ListedReel {
     pub(crate) contents: ReelContents,
     /// The source that it was read from.
     pub(crate) source: Source,
-    /// What the comparison with a sums file found, if the reel is whole and there is such a file.
+    /// What the comparison with a catalog found, if the reel is whole and there is a catalog.
     pub(crate) sum: Option<SumVerdict>,
 }
 
@@ -47,13 +48,9 @@ impl ListedReel {
         }
     }
 
-    /// Whether the reel is whole, and its sum is equal to one in the sums file if there is such a
-    /// file.
+    /// Whether the reel is whole, and its sum does not fail the list.
     pub(crate) fn is_good(&self) -> bool {
-        match self.sum {
-            Some(SumVerdict::Differs | SumVerdict::Unknown) => false,
-            Some(SumVerdict::Equal) | None => self.is_whole(),
-        }
+        is_passed(self.sum) && self.is_whole()
     }
 
     /// Returns the volume on it, if exactly one mark follows its blocks. Bytes that make no entry

@@ -166,7 +166,7 @@ pub fn dump_booked<B: Blocks, P: Peer, R: Read, W: Write, K: Keeper, C: CountBoo
     // However the dump ends, the call enters every volume that was counted during the call. The
     // call enters the volume even if the volume's line could not be printed, or if a checkpoint
     // could not be kept. No clause says at which moment of the call a volume is entered. The tests
-    // in `tests/checks/sums.py` show that `rdump dump` first enters a volume, and then prints the
+    // in `tests/checks/catalog.py` show that `rdump dump` first enters a volume, and then prints the
     // volume's line and keeps the checkpoint. The contract of the book that `rdump dump` uses does
     // not say which counts were entered.
     ensures booked { EntersOn C.entered book.old book.new (drop (length client.old.at.counts) client.new.at.counts) }

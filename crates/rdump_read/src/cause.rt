@@ -2,6 +2,7 @@
 ghost use Rattle.std.specs.Prelude.{◌≡◌};
 ghost use Rattle.exit_status.specs.declared.status.ExitStatus.TheVariants.{Abnormal};
 
+use catalog::SumVerdict;
 use exit_status::ExitStatus;
 use printable::plain;
 use rdump_net::ReadFault;
@@ -13,8 +14,8 @@ use std::io;
 /// Why a reel was not read whole, or stays. Control characters in a path are printed as `?`. Printing allocates nothing.
 #[derive(Clone, Copy)]
 pub(crate) enum Cause<'a> {
-    /// Its sum differs from those in the sums file.
-    Sum,
+    /// The comparison with the catalog found this.
+    Sum(SumVerdict),
     /// A block has another number of bytes than the one before it.
     OtherLength {
         /// How many bytes the block has.
@@ -66,7 +67,7 @@ pub(crate) fn report_fault<R: ClientSystem>(rt: &R, to: &str, cause: &Cause<'_>)
 impl Display for Cause<'_> {
     fn fmt<W: Write>(&self, f: &mut Formatter<W>) -> fmt::Result {
         match self {
-            Cause::Sum => f.write_str("sum differs"),
+            Cause::Sum(verdict) => f.write_str(verdict.words()),
             Cause::OtherLength { bytes, before } => {
                 write!(f, "a block of {bytes} bytes after one of {before}")
             }

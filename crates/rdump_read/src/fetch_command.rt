@@ -4,8 +4,8 @@
 ghost use Rattle.rdump_args.specs.Rdump.{IsFetchLine};
 
 use crate::folder_copy::FolderCopy;
+use crate::read_catalog::read_catalog;
 use crate::report::{ReelEnd, Reporter};
-use crate::sums::read_sums;
 use exit_status::ExitStatus;
 use rdump_args::FetchLine;
 use rdump_fetch::{FetchSink, fetch_reel};
@@ -21,7 +21,7 @@ pub(crate) type FolderSink<'a, R, T> = ComparedSink<FetchSink<FolderCopy<'a, R, 
 /// Copies the reels of a stack into record files of a folder, as `rdump fetch` does. `terminal` is
 /// standard error, if that is a terminal: it shows how far the copy is.
 ///
-/// The sums file is read first, if one is given. Then the reels of the stack are copied, one after
+/// The catalog is read first, if one is given. Then the reels of the stack are copied, one after
 /// the other, each over a connection of its own:
 ///
 /// - A copy is made as a file `.NAME.part` of the folder, under an advisory lock. It contains the
@@ -30,15 +30,16 @@ pub(crate) type FolderSink<'a, R, T> = ComparedSink<FetchSink<FolderCopy<'a, R, 
 ///   name of the part is removed, and the folder is synced. A file that has the name already is
 ///   compared with the part, and synced if it has the same bytes.
 /// - A reel moves to the bin after that. It stays if it does not begin with a label, no mark was
-///   found after its records, its blocks have two lengths, its sum differs from those in the sums
-///   file, or the copy could not be made. The copy ends at a reel that stays, which standard error
+///   found after its records, its blocks have two lengths, its sum differs from that in the
+///   catalog, or is of a dump that was begun anew or of a volume that was written again, or the copy
+///   could not be made. The copy ends at a reel that stays, which standard error
 ///   names. What was read of it is left in the part.
 ///
 /// For each reel that was copied, standard output gets the line that `rdump ls` prints for the copy,
 /// with the name of the copy in place of the path.
 ///
 /// Returns the exit status: `Success` if at least one reel was copied, and the stack has no more
-/// reels. Returns `StartupError` if the sums file could not be read or is not valid, or if the
+/// reels. Returns `StartupError` if the catalog could not be read or is not valid, or if the
 /// folder is none. Returns `Abnormal` otherwise.
 pub fn run_fetch<R: ClientSystem, T: Write + Drop>(
     rt: &R,
@@ -47,15 +48,15 @@ pub fn run_fetch<R: ClientSystem, T: Write + Drop>(
 ) -> ExitStatus
     requires { IsFetchLine line }
 {
-    let sums = match read_sums(rt, line.sums) {
-        Ok(sums) => sums,
+    let catalog = match read_catalog(rt, line.catalog) {
+        Ok(catalog) => catalog,
         Err(status) => return status,
     };
     if let Err(error) = check_folder(rt, line.into) {
         return report(rt, line.into, error);
     }
     let file = FolderCopy::new(rt, line.into, terminal);
-    let mut sink = ComparedSink::new(FetchSink::new(file), sums);
+    let mut sink = ComparedSink::new(FetchSink::new(file), catalog);
     fetch_stack(rt, &line, &mut sink)
 }
 

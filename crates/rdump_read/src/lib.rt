@@ -13,10 +13,10 @@ mod named;
 mod out_file;
 mod part;
 mod progress;
+mod read_catalog;
 mod read_command;
 mod read_sink;
 mod report;
-mod sums;
 
 pub use fetch_command::run_fetch;
 pub use read_command::run_read;

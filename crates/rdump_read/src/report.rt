@@ -7,18 +7,19 @@ ghost use Rattle.rdump_args.specs.Rdump.{IsFetchLine};
 use crate::cause::{Cause, report_fault};
 use crate::fetch_command::FolderSink;
 use crate::front::{NO_LABEL, front, report_foreign};
+use catalog::SumVerdict;
 use exit_status::ExitStatus;
 use itoa::Buffer;
 use printable::plain;
 use rdump_args::FetchLine;
 use rdump_fetch::{CopiedVolume, FetchFault};
+use rdump_list::push_dated_volume;
 use rdump_net::ReadFault;
 use rdump_system::{ClientSystem, report_unwritten};
 use remote_tape::{TapeCause, TapeRequest};
 use rmt_wire::errno::ENXIO;
 use std::alloc::{AllocError, Global};
 use std::io::{self, Write};
-use sum_lines::{SumVerdict, push_volume};
 
 /// How the copy of a reel ended.
 #[derive(Clone, Copy, PartialEq, Eq)]
@@ -135,8 +136,11 @@ impl<'a, R: ClientSystem> Reporter<'a, R> {
         if fault != ReadFault::Stopped {
             return Cause::of_read(fault, self.failure, self.line.device);
         }
-        if sink.verdict() == Some(SumVerdict::Differs) {
-            return Cause::Sum;
+        if let Some(
+            verdict @ (SumVerdict::Differs | SumVerdict::Anew | SumVerdict::Void),
+        ) = sink.verdict()
+        {
+            return Cause::Sum(verdict);
         }
         match (sink.sink().fault(), sink.sink().file().paths()) {
             (Some(FetchFault::OtherLength { bytes, before }), _) => {
@@ -209,7 +213,7 @@ fn line_of(
     let mut text = Vec::from_slice(alloc, name.as_bytes())?;
     let mut digits = Buffer::new();
     text.extend_from_slice(b": ")?;
-    push_volume(
+    push_dated_volume(
         &mut text,
         &volume.label,
         volume.blocks,

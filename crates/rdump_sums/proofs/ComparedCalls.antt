@@ -8,13 +8,13 @@ use Rattle.dump_run.specs.Label.{PlainLabel, IsLabel, ReadsLabel, label_record}
 use Rattle.rdump_net.specs.Sink.{SinkCall, Takes, blocks_from}
 use Rattle.rdump_net.specs.Sink.SinkCall.{Label, Block, Mark, Complete}
 use Rattle.rdump_net.specs.Sink.Takes.{nothing, accepted, stopped}
-use Rattle.sum_lines.specs.SumLine.{PlainSumLine}
-use Rattle.sum_lines.specs.Sums.{IsVerdict}
-use Rattle.sum_lines.specs.declared.verdict.SumVerdict.{SumVerdict}
-use Rattle.sum_lines.specs.declared.verdict.SumVerdict.TheVariants.{Equal, Differs, Unknown}
+use Rattle.catalog.specs.declared.line.CatalogLine.{CatalogLine}
+use Rattle.catalog.specs.Verdict.{IsVerdict}
+use Rattle.catalog.specs.declared.verdict.SumVerdict.{SumVerdict}
+use Rattle.catalog.specs.declared.verdict.SumVerdict.TheVariants.{Equal, Differs, Anew, Void, Unknown}
 use Rattle.volume_sum.specs.Volume.{file_sum}
 use Rattle.volume_sum.specs.Hashing.{HoldsEntries}
-use Rattle.rdump_sums.specs.Comparing.{Compared, ComparedStep, IsComparedAs}
+use Rattle.rdump_sums.specs.Comparing.{Compared, ComparedStep, IsComparedAs, IsRefused}
 use Rattle.rdump_sums.specs.ComparedVolume.{PassesOn, HasNotDiffered, volume_calls, volume_entries}
 
 -- a record is the label of one volume at most
@@ -83,29 +83,29 @@ module _ {S : Type 0} (takes : S → S → SinkCall → Bool → Type 0) where
   passes s t calls whole (stopped {call = call} step) = stop_passes s t call step
 
   -- the verdict of a sink that has completed
-  completed : (s t : Compared S) (lines : List PlainSumLine) (l : PlainLabel) (entries : List PlainEntry) (verdict : Option SumVerdict)
-      → t.verdict ≡ verdict → verdict ≢ Some Differs → s.sums ≡ Some lines → s.label ≡ Some l → HoldsEntries s.hasher entries
+  judged : (t : Compared S) (lines : List CatalogLine) (l : PlainLabel) (sum : List ℕ) (verdict : SumVerdict)
+      → t.verdict ≡ Some verdict → (IsRefused (Some verdict) → ⊥) → IsVerdict lines l sum verdict → HasNotDiffered lines l sum t
+  judged t lines l sum Equal is fits found = (Equal, is, found, inl refl)
+  judged t lines l sum Unknown is fits found = (Unknown, is, found, inr refl)
+  judged t lines l sum Differs is fits found = absurd (fits tt)
+  judged t lines l sum Anew is fits found = absurd (fits tt)
+  judged t lines l sum Void is fits found = absurd (fits tt)
+
+  completed : (s t : Compared S) (lines : List CatalogLine) (l : PlainLabel) (entries : List PlainEntry) (verdict : Option SumVerdict)
+      → t.verdict ≡ verdict → (IsRefused verdict → ⊥) → s.sums ≡ Some lines → s.label ≡ Some l → HoldsEntries s.hasher entries
       → IsComparedAs s verdict → HasNotDiffered lines l (file_sum entries) t
   completed s t lines l entries None is fits sums label holds (inl none) = absurd (cc)
   completed s t lines l entries None is fits sums label holds (inr none) = absurd (cc)
-  completed s t lines l entries (Some Differs) is fits sums label holds found = absurd (fits refl)
-  completed s t lines l entries (Some Equal) is fits sums label holds found =
+  completed s t lines l entries (Some verdict) is fits sums label holds found =
       let same : found.0 ≡ lines = cc in
       let of : found.1 ≡ l = cc in
-      let known : IsVerdict lines l (file_sum entries) Equal
-      = subst (λ (m : PlainLabel). IsVerdict lines m (file_sum entries) Equal) of
-      (subst (λ (ls : List PlainSumLine). IsVerdict ls found.1 (file_sum entries) Equal) same (found.4 entries holds)) in
-      (Equal, is, known, (λ differs. differs.1 known))
-  completed s t lines l entries (Some Unknown) is fits sums label holds found =
-      let same : found.0 ≡ lines = cc in
-      let of : found.1 ≡ l = cc in
-      let unknown : IsVerdict lines l (file_sum entries) Unknown
-      = subst (λ (m : PlainLabel). IsVerdict lines m (file_sum entries) Unknown) of
-      (subst (λ (ls : List PlainSumLine). IsVerdict ls found.1 (file_sum entries) Unknown) same (found.4 entries holds)) in
-      (Unknown, is, unknown, (λ differs. unknown differs.0))
+      let known : IsVerdict lines l (file_sum entries) verdict
+      = subst (λ (m : PlainLabel). IsVerdict lines m (file_sum entries) verdict) of
+      (subst (λ (ls : List CatalogLine). IsVerdict ls found.1 (file_sum entries) verdict) same (found.4 entries holds)) in
+      judged t lines l (file_sum entries) verdict is fits known
 
   -- the mark and `Complete`
-  ends : (s t : Compared S) (lines : List PlainSumLine) (l : PlainLabel) (entries : List PlainEntry) → s.sums ≡ Some lines → s.label ≡ Some l
+  ends : (s t : Compared S) (lines : List CatalogLine) (l : PlainLabel) (entries : List PlainEntry) → s.sums ≡ Some lines → s.label ≡ Some l
       → HoldsEntries s.hasher entries → Takes (ComparedStep takes) s t (Mark ∷ Complete ∷ []) true
       → HasNotDiffered lines l (file_sum (entries ++ TapeMark ∷ [])) t
   ends s t lines l entries sums label holds calls =
@@ -121,7 +121,7 @@ module _ {S : Type 0} (takes : S → S → SinkCall → Bool → Type 0) where
       completed u t lines l (entries ++ TapeMark ∷ []) t.verdict refl step.3.1 us ul (marked.2 entries holds) step.2
 
   -- the records after the label, and what follows them
-  blocks_kept : (s t : Compared S) (lines : List PlainSumLine) (l : PlainLabel) (entries : List PlainEntry) (n : ℕ) (more : List (List ℕ))
+  blocks_kept : (s t : Compared S) (lines : List CatalogLine) (l : PlainLabel) (entries : List PlainEntry) (n : ℕ) (more : List (List ℕ))
       → s.sums ≡ Some lines → s.label ≡ Some l → HoldsEntries s.hasher entries → All IsRecord more
       → Takes (ComparedStep takes) s t (blocks_from n more ++ Mark ∷ Complete ∷ []) true
       → HasNotDiffered lines l (file_sum (entries ++ (map Record more ++ TapeMark ∷ []))) t
@@ -142,7 +142,7 @@ module _ {S : Type 0} (takes : S → S → SinkCall → Bool → Type 0) where
       (blocks_kept u t lines l (entries ++ Record (b ∷ bytes) ∷ []) (n + 1) more us ul added (All-tail IsRecord (b ∷ bytes) more records) block.2)
 
   -- a whole volume
-  pub kept : OneLabel → (s t : Compared S) (lines : List PlainSumLine) (l : PlainLabel) (more : List (List ℕ)) → s.sums ≡ Some lines → IsLabel l
+  pub kept : OneLabel → (s t : Compared S) (lines : List CatalogLine) (l : PlainLabel) (more : List (List ℕ)) → s.sums ≡ Some lines → IsLabel l
       → All IsRecord (label_record l ∷ more) → Takes (ComparedStep takes) s t (volume_calls l more) true
       → HasNotDiffered lines l (file_sum (volume_entries l more)) t
   kept one s t lines l more sums lawful records calls =

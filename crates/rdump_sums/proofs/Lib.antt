@@ -1,1 +1,2 @@
 pub mod ComparedCalls
+pub mod Lines

@@ -1,25 +1,25 @@
-//! A sink that compares each volume with the lines of a sums file.
+//! A sink that compares each volume with the lines of a catalog.
 ghost use Rattle.std.specs.Prelude.{◌≡◌, None};
 ghost use Rattle.std.specs.Borrow.{sem};
 ghost use Rattle.rdump_sums.specs.SinkLends.{lends_sink};
 
 mod volumes;
 
+use catalog::{Catalog, SumVerdict};
 use dump_run::VolumeLabel;
 use rdump_net::VolumeSink;
 use std::marker::Model;
-use sum_lines::{SumVerdict, Sums};
 use volume_sum::EntryHasher;
 
 /// A sink that passes each volume on to another sink, and compares the sum of the volume's record
-/// file with the lines of a sums file that have the volume's label.
+/// file with the lines of a catalog that have the volume's label.
 ///
-/// It completes only if the other sink completes, and never if such lines exist and none has the
-/// sum. Without a sums file it only passes the volumes on.
+/// It completes only if the other sink completes, and never if the verdict on the volume is
+/// `Differs`, `Anew` or `Void`. Without a catalog it only passes the volumes on.
 #[derive(Drop)]
 pub struct ComparedSink<S> {
     sink: S,
-    sums: Option<Sums>,
+    sums: Option<Catalog>,
     label: Option<VolumeLabel>,
     hasher: EntryHasher,
     verdict: Option<SumVerdict>,
@@ -42,7 +42,7 @@ impl<S> Model for ComparedSink<S> {
 impl<S: VolumeSink> ComparedSink<S> {
     /// Makes a sink that passes each volume on to `sink`. If `sums` is given, the new sink also
     /// compares each volume with the lines of `sums`.
-    pub fn new(sink: S, sums: Option<Sums>) -> ComparedSink<S>
+    pub fn new(sink: S, sums: Option<Catalog>) -> ComparedSink<S>
         // The new sink contains the given inner sink and the given lines, both unchanged. The new
         // sink has no label and no verdict.
         ensures { (result.sink ≡ sink) × (result.sums ≡ sums) × (result.label ≡ None) × (result.verdict ≡ None) }
@@ -89,7 +89,7 @@ impl<S: VolumeSink> ComparedSink<S> {
 
     /// Returns the verdict on the volume that the sink received last, or None if the sink has not
     /// compared this volume. The sink compares the volume when it is asked to complete the volume,
-    /// if there is a sums file and the volume has a label.
+    /// if there is a catalog and the volume has a label.
     pub fn verdict(&self) -> Option<SumVerdict>
         // Returns the sink's verdict, or None if the sink has no verdict.
         ensures { result ≡ self.now.verdict }

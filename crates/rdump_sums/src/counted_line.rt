@@ -1,14 +1,25 @@
-//! The line of a counted volume in a sums file.
-ghost use Rattle.std.specs.Prelude.{◌≡◌, ℕ, List, IfSome};
+//! The lines of a dump in a catalog.
+ghost use Rattle.std.specs.Prelude.{◌≡◌, ◌↔◌, ℕ, List, IfSome, IsTrue, length};
+ghost use Rattle.dump_run.specs.Run.{id_of_run};
 ghost use Rattle.volume_sum.specs.Volume.{volume_sum};
-ghost use Rattle.rdump_sums.specs.Counted.{IsCountLine};
+ghost use Rattle.catalog.specs.DumpLines.{plain_begun, plain_finished};
+ghost use Rattle.rdump_sums.specs.Counted as spec;
+ghost use Rattle.rdump_sums.specs.Counted.{HasCountIn, HasCountLine, IsCountLine, IsCovered};
 
-use dump_client::{Blocks, Client, VolumeCount};
+use catalog::{BegunLine, Catalog, CatalogRun, FinishedLine, SumLine};
+use dump_client::{Blocks, Client, Run, VolumeCount};
 use dump_run::VolumeLabel;
-use sum_lines::SumLine;
 use volume_sum::Summed;
 
-/// Returns the line that a sums file gets for a counted volume of the client's run.
+/// Returns the line with which the client's run begins. `bytes` is the length of the payload.
+pub fn begun_line_of<B: Blocks>(client: &Client<B>, bytes: u64) -> BegunLine
+    // The line has the name, the level and the dates of the client's run, and the given length.
+    ensures { result ≡ plain_begun (id_of_run client.now.at.run) bytes }
+{
+    BegunLine::new(client.run().id().copy(), bytes)
+}
+
+/// Returns the line that a catalog gets for a counted volume of the client's run.
 ///
 /// The sum is known while the volume is the last one that the client has begun. Returns None if it
 /// is not known.
@@ -32,10 +43,83 @@ pub fn sum_line_of<B: Blocks>(client: &Client<Summed<B>>, count: VolumeCount) ->
         count.volume,
         count.first,
     )?;
-    let block_bytes = if count.count == 0 {
-        0
-    } else {
-        run.block_bytes() as u32
-    };
+    let block_bytes = block_size(run, count);
     SumLine::new(sum, label, count.count, block_bytes)
+}
+
+/// Returns the line that a catalog gets for the client's run once it is finished. `bytes` is the
+/// length of the payload. Returns None if the client has counted no volume, or more volumes than a
+/// run can have.
+pub fn finished_line_of<B: Blocks>(client: &Client<B>, bytes: u64) -> Option<FinishedLine>
+    // The line has the name, the level and the dates of the client's run, the number of its counted
+    // volumes, its number of blocks, the size of its blocks, and the given length.
+    ensures { IfSome result (λ f. f ≡
+        plain_finished (id_of_run client.now.at.run) (length client.now.at.counts) client.now.at.run.blocks client.now.at.run.block_bytes bytes) }
+{
+    let run = client.run();
+    let volumes = u32::try_from(client.counted().len()).ok()?;
+    let block_bytes = run.block_bytes() as u32;
+    FinishedLine::new(run.id().copy(), volumes, run.blocks(), block_bytes, bytes)
+}
+
+/// Returns whether a line that is in force has the label of a counted volume of the run, the number
+/// of its blocks, and their size.
+pub fn has_count(catalog: &Catalog, run: &Run, count: VolumeCount) -> bool
+    // Returns true if and only if a line that is in force has the label of the counted volume, the
+    // number of its blocks, and the run's block size. If the volume has no blocks, the line has 0
+    // instead of the block size.
+    ensures { IsTrue result ↔ HasCountLine catalog.now run.now count }
+{
+    match catalog.run(run.id()) {
+        Some(lately) => has_count_in(&lately, run, count),
+        None => false,
+    }
+}
+
+/// Whether a line of the dump is in force that has the label of a counted volume, the number of its
+/// blocks, and their size.
+fn has_count_in(lately: &CatalogRun<'_>, run: &Run, count: VolumeCount) -> bool
+    ensures { IsTrue result ↔ HasCountIn lately.now.after.now lately.now.begun.now.id run.now count }
+{
+    match lately.volume(count.volume) {
+        Some(line) => is_count_line(line, run, count),
+        None => false,
+    }
+}
+
+/// Whether each of these counts has a line that is in force.
+pub(crate) fn covers(catalog: &Catalog, run: &Run, counts: &[VolumeCount]) -> bool
+    ensures { IsTrue result ↔ IsCovered catalog.now run.now counts.now }
+{
+    let mut at = counts.len();
+    while at > 0 {
+        at -= 1;
+        if !has_count(catalog, run, counts[at]) {
+            return false;
+        }
+    }
+    true
+}
+
+/// Whether a line of the run's dump has the label of a counted volume, the number of its blocks, and
+/// their size.
+fn is_count_line(line: &SumLine, run: &Run, count: VolumeCount) -> bool
+    ensures { IsTrue result ↔ IsCountLine run.now count line.now }
+{
+    let label = line.label();
+    label.id().is_same(run.id())
+        && label.volume() == count.volume
+        && label.first() == count.first
+        && line.blocks() == count.count
+        && line.block_bytes() == block_size(run, count)
+}
+
+/// Returns the size of a block of a counted volume: 0 if the volume has none.
+fn block_size(run: &Run, count: VolumeCount) -> u32
+    ensures { result ≡ spec.block_size run.now count.count }
+{
+    if count.count == 0 {
+        return 0;
+    }
+    run.block_bytes() as u32
 }

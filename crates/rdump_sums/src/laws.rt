@@ -3,7 +3,7 @@ ghost use Rattle.std.specs.Prelude.{◌≡◌, ℕ, List, ◌∷◌, Bool, true,
 ghost use Rattle.tape.specs.Tape.{IsRecord};
 ghost use Rattle.dump_run.specs.Label.{PlainLabel, IsLabel, label_record};
 ghost use Rattle.rdump_net.specs.Sink.{SinkCall, Takes};
-ghost use Rattle.sum_lines.specs.SumLine.{PlainSumLine};
+ghost use Rattle.catalog.specs.declared.line.CatalogLine.{CatalogLine};
 ghost use Rattle.volume_sum.specs.Volume.{file_sum};
 ghost use Rattle.rdump_sums.specs.Comparing.{Compared, ComparedStep};
 ghost use Rattle.rdump_sums.specs.ComparedVolume.{PassesOn, HasNotDiffered, volume_calls, volume_entries};
@@ -12,7 +12,7 @@ use dump_run::one_label;
 use rdump_net::VolumeSink;
 
 /// A `ComparedSink` passes calls on to the inner sink, and never completes a volume with the
-/// verdict `Differs`.
+/// verdict `Differs`, `Anew` or `Void`.
 ///
 /// `rdump_net::copy_volume` takes a reel offline only if its sink completes.
 ///
@@ -22,17 +22,20 @@ pub fn compared_volume<S: VolumeSink>()
     // `ComparedSink` accepted all calls, the inner sink also accepted all calls. If the
     // `ComparedSink` did not accept the last call, there are two cases. In the first case, the
     // inner sink did not accept the last call either. In the second case, the last call asked the
-    // `ComparedSink` to complete the volume, and the verdict is `Differs`. In this second case, the
-    // inner sink accepted all earlier calls, and was not asked to complete the volume.
+    // `ComparedSink` to complete the volume, and the verdict is `Differs`, `Anew` or `Void`. In
+    // this second case, the inner sink accepted all earlier calls, and was not asked to complete
+    // the volume.
     ensures passes { (s t : Compared S) (calls : List SinkCall) (whole : Bool) → Takes (ComparedStep S.takes) s t calls whole →
         PassesOn S.takes s t calls whole }
-    // The following promises hold if there is a sums file and each record of the volume has 1 to
+    // The following promises hold if there is a catalog and each record of the volume has 1 to
     // 262,144 bytes. The `ComparedSink` completes an accepted volume with a label only in two
-    // cases. Either a line has the volume's label and the volume's sum, or no line has the volume's
-    // label. So if lines have the volume's label, but none of these lines has the volume's sum,
-    // `copy_volume` of `rdump_net` does not take the reel offline. If the `ComparedSink` completes
-    // an accepted volume with a label, the `ComparedSink` then has a verdict on this volume.
-    ensures kept { (s t : Compared S) (lines : List PlainSumLine) (l : PlainLabel) (more : List (List ℕ)) → s.sums ≡ Some lines →
+    // cases. Either a line that is in force has the volume's label and the volume's sum: the
+    // verdict is `Equal`. Or no line that is in force has the label, and no line that follows or
+    // precedes the last line with which the dump began has the label and the sum, or no line says
+    // that the dump began: the verdict is `Unknown`. So with any other verdict `copy_volume` of
+    // `rdump_net` does not take the reel offline. If the `ComparedSink` completes an accepted
+    // volume with a label, the `ComparedSink` then has a verdict on this volume.
+    ensures kept { (s t : Compared S) (lines : List CatalogLine) (l : PlainLabel) (more : List (List ℕ)) → s.sums ≡ Some lines →
         IsLabel l → All IsRecord (label_record l ∷ more) → Takes (ComparedStep S.takes) s t (volume_calls l more) true →
         HasNotDiffered lines l (file_sum (volume_entries l more)) t }
 {

@@ -10,8 +10,8 @@ use std::io;
 /// The message for a file that should be a dumpdates file.
 pub const NO_DUMPDATES: &str = "it is no dumpdates file";
 
-/// The message for a file that should be a sums file.
-pub const NO_SUMS: &str = "it is no sums file";
+/// The message for a file that should be a catalog.
+pub const NO_CATALOG: &str = "it is no catalog";
 
 /// Prints on standard error what failed and why, and returns `StartupError`.
 pub fn print_fault<R: Eprint>(rt: &R, what: &str, why: &str) -> ExitStatus

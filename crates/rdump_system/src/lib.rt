@@ -11,7 +11,7 @@ mod system;
 mod terminal;
 
 pub use fault::{
-    NO_DUMPDATES, NO_SUMS, print_fault, report, report_failed, report_failures, report_no_dates,
+    NO_CATALOG, NO_DUMPDATES, print_fault, report, report_failed, report_failures, report_no_dates,
     report_no_memory, report_unwritten,
 };
 pub use system::ClientSystem;

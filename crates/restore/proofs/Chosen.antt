@@ -1,18 +1,19 @@
 -- The volumes of a dump that is wanted, and its payload.
-use Rattle.std.proofs.Common.{◌≡◌, ◌≢◌, ◌⊎◌, inl, inr, ℕ, zero, suc, ◌+◌, ◌<◌, List, [], ◌∷◌, ◌++◌, length, get_or, take, refl, sym, ap, subst, ◌∙◌, length-append, arith}
-use Rattle.std.proofs.lemmas.List.Elements.{All-append, All-contains, All-contains_itself, All-head, All-nil, All-push, All-weaker, Contains-append_right, Contains-push, Contains-push_cases}
+use Rattle.std.proofs.Common.{◌≡◌, ◌≢◌, ◌⊎◌, inl, inr, ℕ, zero, suc, ◌+◌, List, [], ◌∷◌, ◌++◌, length, get_or, take, refl, sym, ap, subst, ◌∙◌, length-append, arith}
+use Rattle.std.proofs.lemmas.List.Elements.{All-append, All-contains, All-contains_itself, All-head, All-nil, All-push, All-tail, All-weaker, Contains-append_right, Contains-push_cases}
 use Rattle.std.proofs.lemmas.List.Sorted.{All-permutation, Contains-permutation, IsPermutation-sym}
 use Rattle.std.proofs.lemmas.List.Sums.{sum_by-cons}
 use Rattle.std.specs.List.{concat}
-use Rattle.std.specs.Prelude.{All, Contains, IsPermutation}
+use Rattle.std.specs.Prelude.{All, Contains, IfSome, IsPermutation, Option}
 use Rattle.dump_run.specs.DumpId.{PlainId}
 use Rattle.dump_run.specs.Label.{id_of}
 use Rattle.restore.proofs.Blocks.{one_size}
 use Rattle.restore.proofs.ChainMore.{IsOnReel, among_still}
 use Rattle.restore.specs.Chain.{AreLinked, IsAmong, IsChain, IsChosen, IsComplete, block_count}
-use Rattle.restore.specs.Found.{AreFound, IsFound, IsWantedVolume}
-use Rattle.restore.specs.Restored.{ArePlaces, Fits, IsLengthOf, IsRestored, Place, PlainWanted, blocks_in}
-use Rattle.restore.specs.Volumes.{AreBlocks, HasVolume, IsVolumeFile, volume_label}
+use Rattle.restore.specs.Found.{AreFound, IsWantedVolume}
+use Rattle.catalog.specs.declared.line.CatalogLine.{CatalogLine}
+use Rattle.restore.specs.Restored.{ArePlaces, AreTakenPlaces, Fits, IsLengthOf, IsRestored, IsTaken, Place, PlainWanted, blocks_in}
+use Rattle.restore.specs.Volumes.{HasVolume}
 use Rattle.restore.specs.Written.{AreTheBlocks}
 use Rattle.restore.specs.declared.volume.FoundVolume.{FoundVolume}
 
@@ -63,15 +64,18 @@ chain_end reels (f ∷ fs) end chain = chain.1
 -- the chain of the volumes that were found is that of a dump that is wanted
 pub chosen : (reels : List (List ℕ)) (wanted : PlainWanted) (found volumes : List FoundVolume) (end : ℕ) → AreFound reels wanted (length reels) found
     → IsChain reels volumes end → All (λ f. IsAmong reels volumes f.reel) found → All (Contains found) volumes → IsComplete wanted.length end volumes
-    → IsChosen reels wanted volumes
-chosen reels wanted found volumes end are chain among from complete =
+    → IfSome wanted.volumes (λ count. length volumes ≡ count) → IsChosen reels wanted volumes
+chosen reels wanted found volumes end are chain among from complete many =
     let is = chain_end reels volumes end chain in
     record {
       chain = rw is at chain;
       complete = rw is at complete;
+      many = many;
       fits = All-weaker (Contains found) (λ f. Fits wanted (id_of f.label)) (λ f has. (All-contains (IsWantedVolume reels wanted) found f are.each has).0) volumes from;
-      only = λ number label size blocks has fits.
-          (let (f, there, at) = are.every number label size blocks has.0 has fits in
+      taken = All-weaker (Contains found) (λ f. IsTaken wanted.lines f.label (get_or reels f.reel []))
+          (λ f has. (All-contains (IsWantedVolume reels wanted) found f are.each has).1) volumes from;
+      only = λ number label size blocks has fits taken.
+          (let (f, there, at) = are.every number label size blocks has.0 has fits taken in
           rw at at (All-contains (λ g. IsAmong reels volumes g.reel) found f among there));
     }
 
@@ -91,6 +95,23 @@ module _ (reels : List (List ℕ)) (id : PlainId) (size : ℕ) where
         subst (λ l. HasVolume reels f.reel l f.block_bytes linked.2.0) linked.0 linked.2.1.0,
         subst (λ n. ArePlaces reels id (volume + 1) n (places (volume + 1) (first + f.blocks) fs linked.3)) (ap (λ n. first + n) count) rest,
       )
+
+  taken_places : (lines : Option (List CatalogLine)) (volume first : ℕ) (fs : List FoundVolume) (linked : AreLinked reels id size volume first fs)
+      → All (λ f. IsTaken lines f.label (get_or reels f.reel [])) fs → AreTakenPlaces reels lines id volume first (places volume first fs linked)
+  unfolding places
+  taken_places lines volume first [] linked all = tt
+  taken_places lines volume first (f ∷ fs) linked all =
+      let P : FoundVolume → Type 0 = λ g. IsTaken lines g.label (get_or reels g.reel []) in
+      let count : f.blocks ≡ length linked.2.0 = linked.2.1.1 in
+      let rest = taken_places lines (volume + 1) (first + f.blocks) fs linked.3 (All-tail P f fs all) in (
+        subst (λ l. IsTaken lines l (get_or reels f.reel [])) linked.0 (All-head P f fs all),
+        subst (λ n. AreTakenPlaces reels lines id (volume + 1) n (places (volume + 1) (first + f.blocks) fs linked.3)) (ap (λ n. first + n) count) rest,
+      )
+
+  as_many : (volume first : ℕ) (fs : List FoundVolume) (linked : AreLinked reels id size volume first fs) → length (places volume first fs linked) ≡ length fs
+  unfolding places
+  as_many volume first [] linked = refl
+  as_many volume first (f ∷ fs) linked = ap suc (as_many (volume + 1) (first + f.blocks) fs linked.3)
 
   the_blocks : (volume first : ℕ) (fs : List FoundVolume) (linked : AreLinked reels id size volume first fs)
       → AreTheBlocks reels fs (blocks_in (places volume first fs linked))
@@ -149,10 +170,12 @@ payload_of reels wanted (f ∷ fs) chosen =
         fits = All-head (λ g. Fits wanted (id_of g.label)) f fs chosen.fits;
         some = some_places;
         placed = are_places reels id size 1 0 (f ∷ fs) linked;
+        many = subst (λ n. IfSome wanted.volumes (λ count. n ≡ count)) (sym (as_many reels id size 1 0 (f ∷ fs) linked)) chosen.many;
+        taken = taken_places reels id size wanted.lines 1 0 (f ∷ fs) linked chosen.taken;
         sizes = sizes reels id size 1 0 (f ∷ fs) linked;
         ends = subst (IsLengthOf wanted.length size) (sym (many reels id size 1 0 (f ∷ fs) linked)) chosen.complete;
-        only = λ number label size blocks has fits.
-            (let (g, there, is) = chosen.only number label size blocks has fits in
+        only = λ number label size blocks has fits taken.
+            (let (g, there, is) = chosen.only number label size blocks has fits taken in
             let (p, here, at) = placed reels id f.block_bytes 1 0 (f ∷ fs) linked g there in
             (p, here, ap (λ n. get_or reels n []) at ∙ is));
         bytes_are = refl;

@@ -1,26 +1,25 @@
 -- A restore from the record files of a dump's counted volumes gives its payload.
-use Rattle.std.proofs.Common.{◌≡◌, ◌≢◌, ℕ, zero, suc, ◌+◌, ◌*◌, ◌<◌, ◌≤◌, List, [], ◌∷◌, ◌++◌, length, get_or, take, drop, refl, sym, ap, subst, ◌∙◌, append_assoc, append-nil, length-append, length-take, length-drop, arith, take-add}
-use Rattle.std.proofs.lemmas.List.{drop_more, take-append-drop, take-append-le, take_all}
-use Rattle.std.proofs.lemmas.List.Elements.{All-drop, All-nil, All-take, Contains-append_right}
+use Rattle.std.proofs.Common.{◌≡◌, ℕ, zero, suc, ◌+◌, ◌≤◌, List, [], ◌∷◌, ◌++◌, length, get_or, take, drop, refl, sym, ap, subst, ◌∙◌, append_assoc, append-nil, length-append, length-take, length-drop, arith, take-add}
+use Rattle.std.proofs.lemmas.List.{drop_more, take-append-le, take_all}
+use Rattle.std.proofs.lemmas.List.Elements.{All-drop, All-take, Contains-append_right}
 use Rattle.std.proofs.lemmas.List.Folds.{concat-append}
 use Rattle.std.proofs.lemmas.Grind.{flat_map-append}
 use Rattle.std.specs.List.{concat}
 use Rattle.std.specs.Prelude.{All, Contains, map}
 use Rattle.tape.proofs.Spelling.{spells_in}
 use Rattle.tape.specs.RecordFile.{images_of}
-use Rattle.tape.specs.Tape.{PlainEntry}
 use Rattle.tape.specs.Tape.PlainEntry.{Record, Mark}
 use Rattle.dump_run.specs.Counts.{Covers, CoversFrom}
 use Rattle.dump_run.specs.DumpId.{PlainId}
-use Rattle.dump_run.specs.Label.{IsLabel, PlainLabel, label, label_of, label_record, id_of}
-use Rattle.dump_run.specs.Run.{IsBlockSize, IsRun, PlainRun, blocks_limit, id_of_run}
+use Rattle.dump_run.specs.Label.{IsLabel, PlainLabel, label, label_of}
+use Rattle.dump_run.specs.Run.{IsBlockSize, IsRun, PlainRun, id_of_run}
 use Rattle.dump_run.specs.declared.count.VolumeCount.{VolumeCount}
 use Rattle.volume_sum.specs.Volume.{block_records, whole_volume}
 use Rattle.restore.proofs.FoundMore.{same_label}
 use Rattle.restore.proofs.Whole.{OneHolding, spelled, volume_entries}
-use Rattle.restore.specs.Dumped.{AreThere, IsPayloadOf, IsThere}
-use Rattle.restore.specs.Restored.{ArePlaces, Fits, IsRestored, Place, PlainWanted, blocks_in}
-use Rattle.restore.specs.Volumes.{AreBlocks, HasVolume, IsVolumeFile, volume_file, volume_label}
+use Rattle.restore.specs.Dumped.{AreTaken, AreThere, IsPayloadOf, IsThere}
+use Rattle.restore.specs.Restored.{ArePlaces, Fits, IsRestored, IsTaken, Place, PlainWanted, blocks_in}
+use Rattle.restore.specs.Volumes.{AreBlocks, HasVolume, IsVolumeFile, volume_label}
 
 -- blocks of a payload as records
 records_are : (payload : List (List ℕ)) (first count : ℕ) → first + count ≤ length payload
@@ -111,13 +110,14 @@ module _ (one : OneHolding) (run : PlainRun) (payload : List (List ℕ)) (is : I
     pub number : c.volume ≡ 1 + length before
     pub blocks_are : place.blocks ≡ take c.count (drop c.first payload)
 
-  found : (c : VolumeCount) → IsLabel (label_of run c.volume c.first) → IsThere reels run payload c → c.first + c.count ≤ run.blocks → Found c
-  found c lawful there within =
+  found : (c : VolumeCount) → IsLabel (label_of run c.volume c.first) → IsThere reels run payload c
+      → IsTaken wanted.lines (label_of run c.volume c.first) (images_of (whole_volume run payload c.volume c.first c.count)) → c.first + c.count ≤ run.blocks → Found c
+  found c lawful there taken within =
       let blocks = take c.count (drop c.first payload) in
       let label = label_of run c.volume c.first in
       let (s, v) = counted_file run payload c is of lawful within in
       let file = subst (λ b. IsVolumeFile b label s blocks) (sym there.2) v in
-      let (p, among, same) = r.only there.0 label s blocks (there.1, file) fits in
+      let (p, among, same) = r.only there.0 label s blocks (there.1, file) fits (subst (λ b. IsTaken wanted.lines label b) (sym there.2) taken) in
       let at = place_at reels r.id 1 0 r.places p r.placed among in
       let w = rw same at at.has.1 in
       let labels = same_label one (get_or reels there.0 []) label _ s p.size blocks p.blocks file w in
@@ -131,15 +131,15 @@ module _ (one : OneHolding) (run : PlainRun) (payload : List (List ℕ)) (is : I
       }
 
   walk : (cs : List VolumeCount) (before ps : List Place) (volume first : ℕ) → r.places ≡ before ++ ps → volume ≡ 1 + length before
-      → blocks_in before ≡ take first payload → CoversFrom run.blocks volume first cs → AreThere reels run payload cs
+      → blocks_in before ≡ take first payload → CoversFrom run.blocks volume first cs → AreThere reels run payload cs → AreTaken wanted.lines run payload cs
       → (rest : List (List ℕ)) × (blocks_in r.places ≡ payload ++ rest)
-  walk [] before ps volume first list number blocks covers there =
+  walk [] before ps volume first list number blocks covers there taken =
       let all : take first payload ≡ payload = take_all first payload (omega (arith, of.many)) in
       (blocks_in ps, ap blocks_in list ∙ flat_map-append (λ (p : Place). p.blocks) before ps ∙ ap (λ l. l ++ blocks_in ps) (blocks ∙ all))
-  walk (c ∷ cs) before ps volume first list number blocks covers there =
+  walk (c ∷ cs) before ps volume first list number blocks covers there taken =
       let within = covers_within run.blocks (volume + 1) (first + c.count) cs covers.2 in
       let mine = there c (0, omega arith, refl) in
-      let f = found c mine.0 mine.1 (omega (arith, covers.1)) in
+      let f = found c mine.0 mine.1 (taken c (0, omega arith, refl)) (omega (arith, covers.1)) in
       let front = same_front before f.before ps (f.place ∷ f.behind) (sym list ∙ f.list) (omega (arith, f.number, covers.0)) in
       let more = before ++ f.place ∷ [] in
       let one_more : blocks_in more ≡ take (first + c.count) payload
@@ -149,10 +149,11 @@ module _ (one : OneHolding) (run : PlainRun) (payload : List (List ℕ)) (is : I
       walk cs more f.behind (volume + 1) (first + c.count)
       (list ∙ ap (λ l. before ++ l) front.1 ∙ sym (append_assoc before (f.place ∷ []) f.behind)) (omega (arith, number, length-append before (f.place ∷ [])))
       one_more covers.2 (λ d has. there d (Contains-append_right (c ∷ []) cs d has))
+      (λ d has. taken d (Contains-append_right (c ∷ []) cs d has))
 
-  pub comes_back : (counts : List VolumeCount) → Covers run counts → AreThere reels run payload counts → wanted.length ≤ length (concat payload)
+  pub comes_back : (counts : List VolumeCount) → Covers run counts → AreThere reels run payload counts → AreTaken wanted.lines run payload counts → wanted.length ≤ length (concat payload)
       → bytes ≡ take wanted.length (concat payload)
-  comes_back counts covers there short =
-      let (rest, all) = walk counts [] r.places 1 0 refl refl refl covers.1 there in
+  comes_back counts covers there taken short =
+      let (rest, all) = walk counts [] r.places 1 0 refl refl refl covers.1 there taken in
       r.bytes_are ∙ ap (λ l. take wanted.length (concat l)) all ∙ ap (take wanted.length) (concat-append payload rest)
       ∙ take-append-le wanted.length (concat payload) (concat rest) short

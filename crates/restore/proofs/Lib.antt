@@ -2,7 +2,9 @@ pub mod Blocks
 pub mod ChainMore
 pub mod Chosen
 pub mod ComesBack
+pub mod Findings
 pub mod FoundMore
 pub mod Pieces
+pub mod Verdicts
 pub mod Whole
 pub mod Writing

@@ -1,5 +1,5 @@
 -- When the contents of a reel are a whole volume.
-use Rattle.std.proofs.Common.{◌≡◌, ◌≢◌, ℕ, ◌+◌, ◌-◌, ◌<◌, ◌≤◌, Option, Some, None, get_or, List, [], ◌∷◌, ◌++◌, length, refl, sym, ap, subst, ◌∙◌, append-nil, length-append, arith}
+use Rattle.std.proofs.Common.{◌≡◌, ℕ, ◌-◌, ◌<◌, ◌≤◌, Some, None, get_or, List, [], ◌∷◌, ◌++◌, length, refl, sym, ap, subst, ◌∙◌, append-nil, length-append, arith}
 use Rattle.std.proofs.lemmas.List.Elements.{All-append, All-cons, All-head, All-map, All-nil, All-tail, All-weaker}
 use Rattle.std.specs.Prelude.{All, map}
 use Rattle.tape.proofs.Spelling.{found_in, image_size}
@@ -10,7 +10,6 @@ use Rattle.rmt_wire.specs.declared.limits.TheConstants.{RECORD_LIMIT}
 use Rattle.dump_run.proofs.LabelReading.{length_record}
 use Rattle.dump_run.specs.Label.{PlainLabel, label_record}
 use Rattle.dump_run.specs.Run.{blocks_limit}
-use Rattle.reel_check.specs.Contents.{IsContents}
 use Rattle.reel_check.specs.Holding.{IsHolding, IsVolume}
 use Rattle.reel_check.specs.declared.contents.ReelContents.{ReelContents}
 use Rattle.reel_check.specs.declared.holding.Holding.{Holding}
@@ -18,13 +17,11 @@ use Rattle.reel_check.specs.declared.holding.Holding.TheVariants as holding
 use Rattle.reel_check.specs.declared.holding.Volume.{Volume}
 use Rattle.reel_check.specs.declared.holding.VolumeEnd.TheVariants.{OneMark}
 use Rattle.restore.proofs.Blocks.{one_size}
-use Rattle.restore.specs.Found.{IsFoundIn, IsFoundOn}
+use Rattle.restore.specs.Found.{IsChecked, IsFinding, IsFoundOn, IsNotTaken}
+use Rattle.restore.specs.Restored.{PlainWanted}
+use Rattle.restore.specs.declared.found.Finding.TheVariants.{Taken}
 use Rattle.restore.specs.declared.volume.FoundVolume.{FoundVolume}
 use Rattle.restore.specs.Volumes.{AreBlocks, IsVolumeFile, volume_file}
-
--- the check of these bytes found these contents
-abbrev pub IsChecked : List ℕ → ReelContents → Type 0
-IsChecked bytes c = (entries : List PlainEntry) → SpellsReel bytes entries → IsContents c bytes entries
 
 -- entries have one description
 abbrev pub OneHolding : Type 0
@@ -122,6 +119,11 @@ size_bound size [] sizes = omega arith
 size_bound size (b ∷ bs) sizes = omega arith
 
 -- what was found in the bytes of a reel was found on it
-pub found_on : (reels : List (List ℕ)) (number : ℕ) (o : Option FoundVolume) → number < length reels → IsFoundIn (get_or reels number []) number o → IsFoundOn reels number o
-found_on reels number (Some f) within found = (found.0, (found.1.0, (rw found.0 (within, found.1.1), found.1.2)))
-found_on reels number None within none = λ label size blocks has. none label size blocks has.1
+pub taken_on : (reels : List (List ℕ)) (wanted : PlainWanted) (number : ℕ) (f : FoundVolume) → number < length reels
+    → IsFinding (get_or reels number []) wanted number (Taken f) → IsFoundOn reels wanted number (Some f)
+taken_on reels wanted number f within found =
+    (found.0.0, (found.1, rw found.0.0 found.2, (found.0.1.0, (rw found.0.0 (within, found.0.1.1), found.0.1.2))))
+
+-- and so is that none is taken
+pub none_on : (reels : List (List ℕ)) (wanted : PlainWanted) (number : ℕ) → IsNotTaken (get_or reels number []) wanted → IsFoundOn reels wanted number None
+none_on reels wanted number none = λ label size blocks has fits taken. none label size blocks has.1 fits taken

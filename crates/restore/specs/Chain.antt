@@ -1,9 +1,9 @@
 -- The volumes of one dump, each beginning where the one before it ends. No public contract needs it.
-use Rattle.std.specs.Prelude.{◌≡◌, ℕ, ◌+◌, List, [], ◌∷◌, ◌≢◌, All, Contains, get_or, length, sum_by}
+use Rattle.std.specs.Prelude.{◌≡◌, ℕ, ◌+◌, List, [], ◌∷◌, All, Contains, IfSome, get_or, length, sum_by}
 use Rattle.dump_run.specs.DumpId.{PlainId}
 use Rattle.dump_run.specs.Label.{AreLabelsOfOneDump, id_of}
 use Rattle.restore.specs.Found.{IsFound}
-use Rattle.restore.specs.Restored.{PlainWanted, Fits, IsLengthOf}
+use Rattle.restore.specs.Restored.{PlainWanted, Fits, IsLengthOf, IsTaken}
 use Rattle.restore.specs.Volumes.{HasVolume, volume_label}
 use Rattle.dump_run.specs.Label.{PlainLabel}
 use Rattle.restore.specs.declared.volume.FoundVolume.{FoundVolume}
@@ -47,9 +47,11 @@ IsComplete bytes end (f ∷ fs) = IsLengthOf bytes f.block_bytes end
 pub record IsChosen (reels : List (List ℕ)) (wanted : PlainWanted) (volumes : List FoundVolume) : Type 0 where
   pub chain : IsChain reels volumes (block_count volumes)
   pub complete : IsComplete wanted.length (block_count volumes) volumes
+  pub many : IfSome wanted.volumes (λ count. length volumes ≡ count)
   pub fits : All (λ f. Fits wanted (id_of f.label)) volumes
+  pub taken : All (λ f. IsTaken wanted.lines f.label (get_or reels f.reel [])) volumes
   pub only : (number : ℕ) (label : PlainLabel) (size : ℕ) (blocks : List (List ℕ)) → HasVolume reels number label size blocks → Fits wanted (id_of label)
-      → IsAmong reels volumes number
+      → IsTaken wanted.lines label (get_or reels number []) → IsAmong reels volumes number
 
 -- one of the volumes is on this reel
 abbrev pub IsReelOf : List FoundVolume → ℕ → Type 0

@@ -34,10 +34,15 @@ pub enum Refusal {
         /// The other reel.
         other: usize,
     },
-    /// No reel has this volume, and a reel has a later one.
+    /// No reel has this volume, and a reel has a later one, or the dump has so many volumes.
     Missing {
         /// The number of the volume.
         volume: u64,
+    },
+    /// The dump has so many volumes, and there are reels with more.
+    MoreVolumes {
+        /// How many volumes the dump has.
+        volumes: u32,
     },
     /// A volume does not begin where the one before it ends.
     Displaced {

@@ -3,6 +3,7 @@ ghost use Rattle.std.specs.Prelude.{◌≡◌, map};
 ghost use Rattle.restore.specs.Restored.{bytes_of};
 
 use crate::{OpenFailed, Shelf};
+use catalog::SumVerdict;
 use std::alloc::Global;
 use std::marker::Model;
 use tape::MemoryMedium;
@@ -55,5 +56,10 @@ impl Shelf for ListShelf {
 
     fn close(&mut self, reel: MemoryMedium) {
         let _ = reel;
+    }
+
+    /// Does nothing.
+    fn set_aside(&mut self, number: usize, verdict: SumVerdict) {
+        let _ = (number, verdict);
     }
 }

@@ -1,5 +1,5 @@
 //! Restores a payload.
-ghost use Rattle.std.specs.Prelude.{◌≡◌, ◌++◌, ◌<◌, ◌≤◌, ℕ, List, Some, IfErr, IfOk, MatchResult, IsTrue, length};
+ghost use Rattle.std.specs.Prelude.{◌≡◌, ◌++◌, ◌<◌, ◌≤◌, ℕ, List, Some, IfErr, IfOk, IfSome, MatchResult, IsTrue, length};
 ghost use Rattle.std.specs.Io.KnownBytes.{Appends};
 ghost use Rattle.rmt_wire.specs.ReplyWriter.{AppendsBeginning};
 ghost use Rattle.tape.specs.Failures.{Steps};
@@ -75,8 +75,28 @@ fn choose<S: Shelf>(
 {
     let found = find_volumes(alloc, shelf, wanted, room)?;
     let chain = chain_of(alloc, shelf, found, room)?;
+    check_volumes(&chain, wanted.volumes)?;
     check_length(&chain, wanted.length)?;
     Ok(chain)
+}
+
+/// Checks that there are so many volumes, if their number is known.
+fn check_volumes(chain: &Chain, volumes: Option<u32>) -> Result<(), Refusal>
+    ensures { IfOk result (λ _. IfSome volumes (λ count. length chain.now.volumes.items ≡ count)) }
+{
+    let Some(count) = volumes else {
+        return Ok(());
+    };
+    let number = chain.volumes.len();
+    if number < count as usize {
+        return Err(Refusal::Missing {
+            volume: number as u64 + 1,
+        });
+    }
+    if number > count as usize {
+        return Err(Refusal::MoreVolumes { volumes: count });
+    }
+    Ok(())
 }
 
 /// Checks that there is a volume, and that the payload of this length ends in the last block.

@@ -2,6 +2,7 @@
 ghost use Rattle.std.specs.Prelude.{◌≡◌, ◌<◌, ℕ, List, [], IfOk, get_or, length};
 ghost use Rattle.tape.specs.Failures.{Steps};
 
+use catalog::SumVerdict;
 use tape::Medium;
 
 /// A reel could not be opened.
@@ -38,5 +39,11 @@ pub trait Shelf {
     /// Closes a reel that was opened.
     fn close(&mut self, reel: Self::Reel)
         // If the bytes of the reels are known, `close` does not change them.
+        ensures { Steps holds self.old self.new (λ old new. new ≡ old) };
+
+    /// Is told that a reel of the dump is set aside, and why: its volume has this verdict. The reel
+    /// is closed.
+    fn set_aside(&mut self, number: usize, verdict: SumVerdict)
+        // If the bytes of the reels are known, `set_aside` does not change them.
         ensures { Steps holds self.old self.new (λ old new. new ≡ old) };
 }

@@ -3,11 +3,12 @@ ghost use Rattle.std.specs.Prelude.{◌↔◌, IsTrue};
 ghost use Rattle.dump_run.specs.Label.{id_of};
 ghost use Rattle.restore.specs.Restored.{Fits};
 
+use catalog::Catalog;
 use dump_run::VolumeLabel;
 use std::marker::Model;
 
-/// The dump that is wanted, as far as it is given, and the length of its payload.
-#[derive(Debug, Drop)]
+/// The dump that is wanted, as far as it is given, and what is known of its payload.
+#[derive(Drop)]
 pub struct Wanted<'a> {
     /// The name of the file system, or None for any.
     pub name: Option<&'a str>,
@@ -17,6 +18,11 @@ pub struct Wanted<'a> {
     pub date: Option<u64>,
     /// The length of the payload in bytes.
     pub length: u64,
+    /// How many volumes the dump has, or None if this is not known.
+    pub volumes: Option<u32>,
+    /// The lines of a catalog, or None to have none. With a catalog a volume is taken only if its
+    /// line is in force and has the SHA-256 of the volume's reel.
+    pub lines: Option<&'a Catalog>,
 }
 
 impl<'a> Model for Wanted<'a> {
@@ -25,7 +31,7 @@ impl<'a> Model for Wanted<'a> {
 
     ghost Value = { PlainWanted };
 
-    ghost view = { λ w. record { name = option_copied w.name; level = w.level; date = w.date; length = w.length } };
+    ghost view = { λ w. record { name = option_copied w.name; level = w.level; date = w.date; length = w.length; volumes = w.volumes; lines = option_copied w.lines } };
 }
 
 impl Wanted<'_> {

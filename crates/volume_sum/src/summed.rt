@@ -56,7 +56,7 @@ impl<B: Blocks> Summed<B> {
         // Suppose that the source's blocks are known. Each sum that the call returns is the sum of
         // the counted volume: of the volume's label, its blocks and one mark. No clause says when
         // the call returns a sum. Tests show that the call returns a sum for each counted volume of
-        // a dump. Test: `tests/checks/sums.py`.
+        // a dump. Test: `tests/checks/catalog.py`.
         ensures { IfSome result (λ sum. (payload : List (List ℕ)) → B.holds self.now payload →
             sum ≡ volume_sum run.now payload count.volume count.first count.count) }
     {

@@ -1,5 +1,5 @@
 -- A restore from the record files of a dump's counted reels gives the payload of the dump.
-use Rattle.world_model.proofs.Basics.{◌≡◌, ℕ, zero, suc, ◌+◌, ◌<◌, ◌≤◌, List, [], ◌∷◌, length, take, Contains, Some, sym, ap, subst, ◌∙◌, inl, inr, arith, same_Some}
+use Rattle.world_model.proofs.Basics.{◌≡◌, ℕ, zero, suc, ◌+◌, ◌<◌, ◌≤◌, List, [], ◌∷◌, length, take, Contains, None, Some, sym, ap, subst, ◌∙◌, inl, inr, arith, same_Some}
 use Rattle.world_model.proofs.Terms.{AreVolumes, Begun, Count, Covers, IsGood, IsRun, IsWorldKept, PlainRun, VolumeCount, World, numbered, whole_volume}
 use Rattle.std.specs.List.{concat}
 use Rattle.std.proofs.lemmas.List.{get_or_default}
@@ -7,10 +7,11 @@ use Rattle.std.proofs.lemmas.List.Elements.{All-from_get_or}
 use Rattle.tape.specs.RecordFile.{images_of}
 use Rattle.dump_run.specs.Label.{IsLabel, label_of}
 use Rattle.dump_run.specs.Run.{blocks_limit, id_of_run}
-use Rattle.restore.specs.Dumped.{AreThere, IsPayloadOf, IsThere}
+use Rattle.catalog.specs.declared.line.CatalogLine.{CatalogLine}
+use Rattle.restore.specs.Dumped.{AreKnown, AreThere, IsPayloadOf, IsThere}
 use Rattle.restore.specs.Restored.{Fits, IsRestored, PlainWanted}
 use Rattle.world_model.proofs.Staying.{reels_counted}
-use Rattle.world_model.specs.Restores.{DumpsComeBack, IsCountOnShelf}
+use Rattle.world_model.specs.Restores.{DumpsComeBack, IsCountOnShelf, IsKnown}
 
 -- The number and the first block of each volume of a run are within the limits of a label: each volume has a block, unless the run has none.
 label_fits : (run : PlainRun) (volume first : ℕ) (cs : List VolumeCount) → IsRun run → 1 ≤ volume → volume ≤ first + 1 → AreVolumes run volume first cs
@@ -48,12 +49,33 @@ payload_of b good = record {
   sizes = All-from_get_or (λ block. length block ≡ b.run.block_bytes) b.payload [] (λ i within. good.whole i (omega (arith, within, good.many)));
 }
 
--- The law of restores.
+-- The law of restores without a catalog, and with one.
+abbrev pub FromReels : Type 0
+FromReels =
+    (run : PlainRun) (payload : List (List ℕ)) (counts : List VolumeCount) (reels : List (List ℕ)) (wanted : PlainWanted) (bytes : List ℕ)
+    → wanted.lines ≡ None → IsRun run → IsPayloadOf run payload → Covers run counts → AreThere reels run payload counts → Fits wanted (id_of_run run)
+    → wanted.length ≤ length (concat payload) → IsRestored reels wanted bytes → bytes ≡ take wanted.length (concat payload)
+
+abbrev pub FromCatalog : Type 0
+FromCatalog =
+    (run : PlainRun) (payload : List (List ℕ)) (counts : List VolumeCount) (reels : List (List ℕ)) (wanted : PlainWanted) (bytes : List ℕ)
+    (lines : List CatalogLine) → wanted.lines ≡ Some lines → AreKnown lines run payload counts → IsRun run → IsPayloadOf run payload → Covers run counts
+    → AreThere reels run payload counts → Fits wanted (id_of_run run) → wanted.length ≤ length (concat payload) → IsRestored reels wanted bytes
+    → bytes ≡ take wanted.length (concat payload)
+
+-- Both in one.
 abbrev pub Restoring : Type 0
 Restoring =
-    (run : PlainRun) (payload : List (List ℕ)) (counts : List VolumeCount) (reels : List (List ℕ)) (wanted : PlainWanted) (bytes : List ℕ) → IsRun run
+    (run : PlainRun) (payload : List (List ℕ)) (counts : List VolumeCount) (reels : List (List ℕ)) (wanted : PlainWanted) (bytes : List ℕ)
+    → IsKnown wanted run payload counts → IsRun run
     → IsPayloadOf run payload → Covers run counts → AreThere reels run payload counts → Fits wanted (id_of_run run) → wanted.length ≤ length (concat payload)
     → IsRestored reels wanted bytes → bytes ≡ take wanted.length (concat payload)
+
+pub restoring : FromReels → FromCatalog → Restoring
+restoring reels_law catalog_law run payload counts reels wanted bytes (inl none) good its covers there fits short restored =
+    reels_law run payload counts reels wanted bytes none good its covers there fits short restored
+restoring reels_law catalog_law run payload counts reels wanted bytes (inr (lines, is, known)) good its covers there fits short restored =
+    catalog_law run payload counts reels wanted bytes lines is known good its covers there fits short restored
 
 -- a counted volume whose reel is on the shelf
 there_on : (w : World) → IsWorldKept w → (run : ℕ) (b : Begun) → numbered w.begun run ≡ Some b → (v : VolumeCount) (reels : List (List ℕ)) (x : Count)
@@ -71,13 +93,13 @@ there_on w kept run b begun v reels x on =
     (place, within, get_or_default reels place [] (images_of entries) within ∙ at ∙ ap images_of listed)
 
 pub dumps_come_back : Restoring → (w : World) → IsWorldKept w → DumpsComeBack w
-dumps_come_back law w kept e b reels wanted bytes among begun shelf fits short restored =
+dumps_come_back law w kept e b reels wanted bytes among begun shelf known fits short restored =
     let (x, at, covers, volumes, counted) = kept.booked.earned e among in
     let same : x ≡ b = same_Some x b (sym at ∙ begun) in
     let good = kept.told.good e.run b begun in
     let covers_it : Covers b.run e.listed = subst (λ (d : Begun). Covers d.run e.listed) same covers in
     let in_order : AreVolumes b.run 1 0 e.listed = subst (λ (d : Begun). AreVolumes d.run 1 0 e.listed) same volumes in
-    law b.run b.payload e.listed reels wanted bytes good.run (payload_of b good) covers_it
+    law b.run b.payload e.listed reels wanted bytes known good.run (payload_of b good) covers_it
     (λ v has. (
       label_fits b.run 1 0 e.listed good.run (omega arith) (omega arith) in_order v has,
       (let (y, on) = shelf v has in there_on w kept e.run b begun v reels y on),

@@ -149,8 +149,10 @@ pub fn kept()
     // reel of these counts, and that the shelf has the record file of each of these reels. The
     // shelf can have any other reels too, in any order. Suppose also that the run's dump is one
     // that is wanted, and that the wanted length is at most that of the payload. The payload is the
-    // joined blocks with which the run began. Then whatever the call `restore` can restore from the
-    // shelf is the beginning of the payload that has the wanted length.
+    // joined blocks with which the run began. Suppose at last that no catalog is given, or one in
+    // which a line that is in force has the label and the sum of each of these volumes. Then
+    // whatever the call `restore` can restore from the shelf is the beginning of the payload that
+    // has the wanted length.
     ensures dumps_come_back { (w : World) → IsWorldKept w → DumpsComeBack w }
     // On each connection of the client, the server has carried out as many requests as the client
     // sent, or one fewer.

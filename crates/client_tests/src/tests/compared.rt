@@ -1,20 +1,23 @@
-//! Volumes and record files that are compared with sums files, and lines that are entered in one.
+//! Volumes and record files that are compared with catalogs, and lines that are entered in one.
 //! `sha256sum` of coreutils printed the sum of the volume.
 
 ghost use Rattle.std.specs.Prelude.{◌≡◌, length};
 
 use super::check_row;
 use super::store::{Held, Kept};
+use catalog::{Catalog, CatalogFault, CatalogLine, SumVerdict, push_line};
 use dump_client::{Client, ListBlocks, Run};
 use dump_run::LABEL_BYTES;
 use rdump_fetch::{FetchSink, MemoryCopy};
 use rdump_files::FileFailed;
 use rdump_list::compare_reel;
 use rdump_net::{Verdict, VolumeSink};
-use rdump_sums::{ComparedSink, EnterFault, enter_sum, sum_line_of};
+use rdump_sums::{
+    ComparedSink, EnterFault, Entered, begun_line_of, enter_begun, enter_finished, enter_line,
+    finished_line_of, has_count, sum_line_of,
+};
 use std::alloc::{AllocError, Global};
 use std::test::Fail;
-use sum_lines::{SumLine, SumVerdict, Sums, SumsFault, push_sum_line};
 use tape::MemoryMedium;
 use volume_sum::Summed;
 
@@ -24,48 +27,88 @@ pub(super) const LABEL: &[u8] = b"name /usr\nlevel 0\ndate 951782400\nsince 0\nv
 /// The record file after the 58 bytes of `LABEL` and its 966 zero bytes.
 const BLOCKS: &[u8] = b"\0\x04\0\0\x02\0\0\0ab\x02\0\0\0\x02\0\0\0cd\x02\0\0\0\0\0\0\0";
 
+/// A dump of a payload of four bytes begins.
+const BEGUN: &[u8] = b"begun     /usr level 0 date 951782400 since 0: 4 bytes\n";
+
 /// The line of the volume of the blocks `ab` and `cd`.
 ///
 /// `(printf '\0\4\0\0name /usr\nlevel 0\ndate 951782400\nsince 0\nvolume 1\nfirst 0\n';`
 /// `head -c 966 /dev/zero; printf '\0\4\0\0\2\0\0\0ab\2\0\0\0\2\0\0\0cd\2\0\0\0\0\0\0\0') |`
 /// `sha256sum`
-pub(super) const LINE: &[u8] = b"5c3bcbe871a8f199adcd679cbcf5ab22c312f376e4ac8d763beb9ef0dddb7343\
+const ALONE: &[u8] = b"\
+5c3bcbe871a8f199adcd679cbcf5ab22c312f376e4ac8d763beb9ef0dddb7343\
 \x20\x20/usr level 0 date 951782400 since 0 volume 1 first 0, 2 blocks of 2 bytes, 1056 bytes\n";
 
-/// A line of the same volume with another sum.
-pub(super) const OTHER_SUM: &[u8] =
-    b"0c3bcbe871a8f199adcd679cbcf5ab22c312f376e4ac8d763beb9ef0dddb7343\
+/// The dump begins, and its volume is counted.
+pub(super) const LINE: &[u8] = b"\
+begun     /usr level 0 date 951782400 since 0: 4 bytes\n\
+5c3bcbe871a8f199adcd679cbcf5ab22c312f376e4ac8d763beb9ef0dddb7343\
 \x20\x20/usr level 0 date 951782400 since 0 volume 1 first 0, 2 blocks of 2 bytes, 1056 bytes\n";
 
-/// A line of another volume with the sum of the volume.
-pub(super) const OTHER_VOLUME: &[u8] =
-    b"5c3bcbe871a8f199adcd679cbcf5ab22c312f376e4ac8d763beb9ef0dddb7343\
+/// The same with another sum.
+pub(super) const OTHER_SUM: &[u8] = b"\
+begun     /usr level 0 date 951782400 since 0: 4 bytes\n\
+0c3bcbe871a8f199adcd679cbcf5ab22c312f376e4ac8d763beb9ef0dddb7343\
+\x20\x20/usr level 0 date 951782400 since 0 volume 1 first 0, 2 blocks of 2 bytes, 1056 bytes\n";
+
+/// The same with the sum in a line of another volume.
+pub(super) const OTHER_VOLUME: &[u8] = b"\
+begun     /usr level 0 date 951782400 since 0: 4 bytes\n\
+5c3bcbe871a8f199adcd679cbcf5ab22c312f376e4ac8d763beb9ef0dddb7343\
 \x20\x20/usr level 0 date 951782400 since 0 volume 2 first 0, 2 blocks of 2 bytes, 1056 bytes\n";
 
-/// The lines `OTHER_SUM` and `LINE`.
-const BOTH: &[u8] = b"0c3bcbe871a8f199adcd679cbcf5ab22c312f376e4ac8d763beb9ef0dddb7343\
+/// The volume is counted twice, last with its own sum.
+const BOTH: &[u8] = b"\
+begun     /usr level 0 date 951782400 since 0: 4 bytes\n\
+0c3bcbe871a8f199adcd679cbcf5ab22c312f376e4ac8d763beb9ef0dddb7343\
 \x20\x20/usr level 0 date 951782400 since 0 volume 1 first 0, 2 blocks of 2 bytes, 1056 bytes\n\
 5c3bcbe871a8f199adcd679cbcf5ab22c312f376e4ac8d763beb9ef0dddb7343\
 \x20\x20/usr level 0 date 951782400 since 0 volume 1 first 0, 2 blocks of 2 bytes, 1056 bytes\n";
 
-/// A sums file, and the result of a comparison with it.
+/// The volume is counted twice, last with another sum.
+const VOID: &[u8] = b"\
+begun     /usr level 0 date 951782400 since 0: 4 bytes\n\
+5c3bcbe871a8f199adcd679cbcf5ab22c312f376e4ac8d763beb9ef0dddb7343\
+\x20\x20/usr level 0 date 951782400 since 0 volume 1 first 0, 2 blocks of 2 bytes, 1056 bytes\n\
+0c3bcbe871a8f199adcd679cbcf5ab22c312f376e4ac8d763beb9ef0dddb7343\
+\x20\x20/usr level 0 date 951782400 since 0 volume 1 first 0, 2 blocks of 2 bytes, 1056 bytes\n";
+
+/// The dump begins anew after its volume was counted.
+const ANEW: &[u8] = b"\
+begun     /usr level 0 date 951782400 since 0: 4 bytes\n\
+5c3bcbe871a8f199adcd679cbcf5ab22c312f376e4ac8d763beb9ef0dddb7343\
+\x20\x20/usr level 0 date 951782400 since 0 volume 1 first 0, 2 blocks of 2 bytes, 1056 bytes\n\
+begun     /usr level 0 date 951782400 since 0: 4 bytes\n";
+
+/// The dump is finished.
+const FINISHED: &[u8] = b"\
+begun     /usr level 0 date 951782400 since 0: 4 bytes\n\
+5c3bcbe871a8f199adcd679cbcf5ab22c312f376e4ac8d763beb9ef0dddb7343\
+\x20\x20/usr level 0 date 951782400 since 0 volume 1 first 0, 2 blocks of 2 bytes, 1056 bytes\n\
+finished  /usr level 0 date 951782400 since 0: 1 volumes, 2 blocks of 2 bytes, 4 bytes\n";
+
+/// A catalog, and the result of a comparison with it.
 type Row = (&'static [u8], SumVerdict);
 
-/// Sums files that have the volume's sum, that have another one, and that have no line of it.
-static ROWS: [Row; 5] = [
+/// Catalogs that have the volume's sum, that have another one, in which the dump begins anew or the
+/// volume is written again, and that have no line of it.
+static ROWS: [Row; 8] = [
     (LINE, SumVerdict::Equal),
     (BOTH, SumVerdict::Equal),
     (OTHER_SUM, SumVerdict::Differs),
+    (ANEW, SumVerdict::Anew),
+    (VOID, SumVerdict::Void),
     (OTHER_VOLUME, SumVerdict::Unknown),
+    (ALONE, SumVerdict::Unknown),
     (b"", SumVerdict::Unknown),
 ];
 
 /// A sink of copies in memory that compares volumes.
 type Sink = ComparedSink<FetchSink<MemoryCopy>>;
 
-/// Makes a sink that compares volumes with the lines of `sums`, if given.
-fn sink(alloc: Global, sums: Option<Sums>) -> Sink {
-    ComparedSink::new(FetchSink::new(MemoryCopy::new(alloc)), sums)
+/// Makes a sink that compares volumes with the lines of `catalog`, if given.
+fn sink(alloc: Global, catalog: Option<Catalog>) -> Sink {
+    ComparedSink::new(FetchSink::new(MemoryCopy::new(alloc)), catalog)
 }
 
 /// Gives a sink the volume. Returns whether the sink completed, or None if it stopped before.
@@ -84,11 +127,11 @@ fn give(sink: &mut Sink) -> Option<bool> {
 /// Whether a volume that is given to a sink is compared as the row says.
 fn is_compared(alloc: Global, row: &Row) -> Result<bool, Fail> {
     let (text, wanted) = *row;
-    let Ok(sums) = Sums::read(alloc, text) else {
+    let Ok(catalog) = Catalog::read(alloc, text) else {
         return Ok(false);
     };
-    let mut sink = sink(alloc, Some(sums));
-    let completes = wanted != SumVerdict::Differs;
+    let mut sink = sink(alloc, Some(catalog));
+    let completes = matches!(wanted, SumVerdict::Equal | SumVerdict::Unknown);
     Ok(
         give(&mut sink) == Some(completes)
             && sink.verdict() == Some(wanted)
@@ -105,7 +148,7 @@ fn volumes_that_are_compared(rt: HostRuntime) -> Result<(), Fail> {
 }
 
 #[test]
-fn a_volume_without_a_sums_file(rt: HostRuntime) -> Result<(), Fail> {
+fn a_volume_without_a_catalog(rt: HostRuntime) -> Result<(), Fail> {
     let mut sink = sink(rt.alloc(), None);
     assert!(rt; give(&mut sink) == Some(true) && sink.verdict().is_none());
     sink.sink_mut().leave();
@@ -124,7 +167,7 @@ pub(super) fn reel(alloc: Global, more: &[u8]) -> Result<Vec<u8>, AllocError> {
     Ok(bytes)
 }
 
-/// Compares the record file of the volume and `more` with a sums file. Returns None if a call
+/// Compares the record file of the volume and `more` with a catalog. Returns None if a call
 /// fails.
 fn verdict(
     alloc: Global,
@@ -132,10 +175,10 @@ fn verdict(
     more: &[u8],
 ) -> Result<Option<Option<SumVerdict>>, AllocError> {
     let mut medium = MemoryMedium::from_bytes(reel(alloc, more)?);
-    let Ok(sums) = Sums::read(alloc, text) else {
+    let Ok(catalog) = Catalog::read(alloc, text) else {
         return Ok(None);
     };
-    match compare_reel(&mut medium, &mut [0; 100], &sums) {
+    match compare_reel(&mut medium, &mut [0; 100], &catalog) {
         Ok((contents, verdict)) if contents.records == 3 => Ok(Some(verdict)),
         _ => Ok(None),
     }
@@ -156,9 +199,9 @@ fn record_files_that_are_compared(rt: HostRuntime) -> Result<(), Fail> {
     Ok(())
 }
 
-/// Returns the line of the first volume that a client counts. The server's replies say that each
-/// request was done, and that the reel was empty.
-fn counted_line(alloc: Global, payload: Vec<u8>) -> Option<SumLine>
+/// Returns a client that has counted its first volume. The server's replies say that each request
+/// was done, and that the reel was empty.
+fn counted_client(alloc: Global, payload: Vec<u8>) -> Option<Client<Summed<ListBlocks>>>
     requires { length payload.items ≡ 4 }
 {
     let run = Run::new(b"/dev/st0", "/usr", 0, 951782400, 0, 2, 2).ok()?;
@@ -166,8 +209,7 @@ fn counted_line(alloc: Global, payload: Vec<u8>) -> Option<SumLine>
     let mut client = Client::new(alloc, run, source).ok()?;
     client.start().ok()?;
     answer_all(alloc, &mut client);
-    let count = *client.counted().first()?;
-    sum_line_of(&client, count)
+    Some(client)
 }
 
 /// Replies to each request of a client's attempt.
@@ -194,58 +236,137 @@ fn reply_to(request: &[u8]) -> &'static [u8] {
     }
 }
 
-/// Returns the line of the volume.
-fn line(alloc: Global) -> Result<SumLine, Fail> {
+/// Returns a client that has counted the volume.
+fn client(alloc: Global) -> Result<Client<Summed<ListBlocks>>, Fail> {
     let payload = Vec::from_slice(alloc, b"abcd")?;
     if payload.len() != 4 {
         return Err(Fail::new("the payload has another size"));
     }
-    match counted_line(alloc, payload) {
-        Some(line) => Ok(line),
-        None => Err(Fail::new("no line")),
+    match counted_client(alloc, payload) {
+        Some(client) => Ok(client),
+        None => Err(Fail::new("no client")),
     }
 }
 
+/// Returns the line of the volume.
+fn line(client: &Client<Summed<ListBlocks>>) -> Option<CatalogLine> {
+    let count = *client.counted().first()?;
+    Some(CatalogLine::Volume(sum_line_of(client, count)?))
+}
+
 #[test]
-fn the_line_of_a_counted_volume(rt: HostRuntime) -> Result<(), Fail> {
+fn the_lines_of_a_dump(rt: HostRuntime) -> Result<(), Fail> {
+    let client = client(rt.alloc())?;
     let mut text = Vec::new(rt.alloc());
-    push_sum_line(&mut text, &line(rt.alloc())?)?;
-    assert!(rt; text.as_slice() == LINE);
+    push_line(&mut text, &CatalogLine::Begun(begun_line_of(&client, 4)))?;
+    push_line(&mut text, &line(&client).expect(&rt, "a line"))?;
+    let finished = finished_line_of(&client, 4).expect(&rt, "a line");
+    push_line(&mut text, &CatalogLine::Finished(finished))?;
+    assert!(rt; text.as_slice() == FINISHED);
     Ok(())
 }
 
-/// The result of reading a sums file, whether it can be replaced, the result of entering the line,
-/// and the text that replaces the file.
-type Entered = (Held, bool, Result<(), EnterFault>, &'static [u8]);
+/// Whether a catalog has a line in force for the first volume of the client.
+fn has_first(alloc: Global, text: &[u8], client: &Client<Summed<ListBlocks>>) -> Option<bool> {
+    let catalog = Catalog::read(alloc, text).ok()?;
+    let count = *client.counted().first()?;
+    Some(has_count(&catalog, client.run(), count))
+}
 
-/// A missing file, one with another line, one that has the line, one that cannot be read, one that
-/// cannot be replaced, and a bad one.
-static ENTERED: [Entered; 6] = [
-    (Ok(None), true, Ok(()), LINE),
-    (Ok(Some(OTHER_SUM)), true, Ok(()), BOTH),
-    (Ok(Some(BOTH)), true, Ok(()), b""),
+#[test]
+fn counts_that_have_a_line(rt: HostRuntime) -> Result<(), Fail> {
+    let client = client(rt.alloc())?;
+    for text in [LINE, OTHER_SUM, VOID, FINISHED] {
+        assert!(rt; has_first(rt.alloc(), text, &client) == Some(true));
+    }
+    for text in [ALONE, OTHER_VOLUME, ANEW, b""] {
+        assert!(rt; has_first(rt.alloc(), text, &client) == Some(false));
+    }
+    Ok(())
+}
+
+/// The result of reading a catalog, whether it can be replaced, the result of entering a line, and
+/// the text that replaces the file.
+type Row3 = (Held, bool, Result<Entered, EnterFault>, &'static [u8]);
+
+/// Catalogs in which the line of the volume is entered, if the dump began with one line: one with
+/// that line, with another line of the volume, with the same, and with the same that is void. Then
+/// one in which the dump did not begin, one in which it began twice, one that cannot be read, one
+/// that cannot be replaced, and a bad one.
+static VOLUMES: [Row3; 9] = [
+    (Ok(Some(BEGUN)), true, Ok(Entered::Added), LINE),
+    (Ok(Some(OTHER_SUM)), true, Ok(Entered::Added), BOTH),
+    (Ok(Some(LINE)), true, Ok(Entered::There), b""),
+    (Ok(Some(BOTH)), true, Ok(Entered::There), b""),
+    (Ok(None), true, Ok(Entered::Another), b""),
+    (Ok(Some(ANEW)), true, Ok(Entered::Another), b""),
     (Err(FileFailed), true, Err(EnterFault::Unread), b""),
-    (Ok(Some(OTHER_SUM)), false, Err(EnterFault::Unwritten), b""),
+    (Ok(Some(BEGUN)), false, Err(EnterFault::Unwritten), b""),
     (
         Ok(Some(b"a line\n")),
         true,
-        Err(EnterFault::Sums(SumsFault::BadLine(1))),
+        Err(EnterFault::Catalog(CatalogFault::BadLine(1))),
         b"",
     ),
 ];
 
 /// Whether entering the line goes as the row says.
-fn enters(alloc: Global, line: &SumLine, row: &Entered) -> bool {
+fn enters(alloc: Global, line: &CatalogLine, row: &Row3) -> bool {
     let (held, takes, wanted, put) = *row;
     let mut store = Kept::new(alloc, held, takes);
-    enter_sum(alloc, &mut store, line) == wanted && store.put.as_slice() == put
+    enter_line(alloc, &mut store, 1, line) == wanted && store.put.as_slice() == put
 }
 
 #[test]
 fn lines_that_are_entered_or_not(rt: HostRuntime) -> Result<(), Fail> {
-    let line = line(rt.alloc())?;
-    for (at, row) in ENTERED.iter().enumerate() {
+    let line = line(&client(rt.alloc())?).expect(&rt, "a line");
+    for (at, row) in VOLUMES.iter().enumerate() {
         check_row(&rt, at, enters(rt.alloc(), &line, row));
     }
+    Ok(())
+}
+
+/// Catalogs in which the dump is finished: one with its line, one without it, and one that says it
+/// already.
+static ENDS: [Row3; 4] = [
+    (Ok(Some(LINE)), true, Ok(Entered::Added), FINISHED),
+    (Ok(Some(BEGUN)), true, Ok(Entered::Uncovered), b""),
+    (Ok(Some(FINISHED)), true, Ok(Entered::There), b""),
+    (Err(FileFailed), true, Err(EnterFault::Unread), b""),
+];
+
+/// Whether entering that the dump is finished goes as the row says.
+fn finishes(alloc: Global, client: &Client<Summed<ListBlocks>>, row: &Row3) -> Option<bool> {
+    let (held, takes, wanted, put) = *row;
+    let mut store = Kept::new(alloc, held, takes);
+    let line = finished_line_of(client, 4)?;
+    let entered = enter_finished(alloc, &mut store, 1, client, line);
+    Some(entered == wanted && store.put.as_slice() == put)
+}
+
+#[test]
+fn dumps_that_are_finished_or_not(rt: HostRuntime) -> Result<(), Fail> {
+    let client = client(rt.alloc())?;
+    for (at, row) in ENDS.iter().enumerate() {
+        check_row(&rt, at, finishes(rt.alloc(), &client, row) == Some(true));
+    }
+    Ok(())
+}
+
+/// The result of entering that the dump begins in such a file, and the text that replaces it.
+fn begins(alloc: Global, held: Held, put: &[u8]) -> Result<Result<usize, EnterFault>, Fail> {
+    let mut store = Kept::new(alloc, held, true);
+    let entered = enter_begun(alloc, &mut store, begun_line_of(&client(alloc)?, 4));
+    match store.put.as_slice() == put {
+        true => Ok(entered),
+        false => Err(Fail::new("another text")),
+    }
+}
+
+#[test]
+fn dumps_that_begin(rt: HostRuntime) -> Result<(), Fail> {
+    assert!(rt; begins(rt.alloc(), Ok(None), BEGUN)? == Ok(1));
+    assert!(rt; begins(rt.alloc(), Ok(Some(LINE)), ANEW)? == Ok(2));
+    assert!(rt; begins(rt.alloc(), Err(FileFailed), b"")? == Err(EnterFault::Unread));
     Ok(())
 }

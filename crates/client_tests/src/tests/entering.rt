@@ -77,21 +77,23 @@ fn what_lies_in_place_of_a_new_file(rt: HostRuntime) -> Result<(), Fail> {
     Ok(())
 }
 
-/// The text of a sums file is replaced, and the new file is gone then.
+/// The text of a catalog is replaced, and the new file is gone then.
 #[test]
-fn a_sums_file_that_is_replaced(rt: HostRuntime) -> Result<(), Fail> {
+fn a_catalog_that_is_replaced(rt: HostRuntime) -> Result<(), Fail> {
     assert!(rt; is_made_and_gone(&rt));
-    let kept = fs::read(&rt, "sums")?;
-    fs::remove_file(&rt, "sums")?;
+    let kept = fs::read(&rt, "catalog")?;
+    fs::remove_file(&rt, "catalog")?;
     assert!(rt; kept.as_slice() == b"a line\n".as_slice());
     Ok(())
 }
 
-/// Whether the new file is there after a read of the sums file, and gone after a replacement.
+/// Whether the new file is there after a read of the catalog, and gone after a replacement.
 fn is_made_and_gone(rt: &HostRuntime) -> bool {
-    let mut file = ReplacedFile::of_sums(rt, rt.alloc(), "sums");
-    let is_made = file.read(rt.alloc()) == Ok(None) && fs::exists(rt, "sums.new").unwrap_or(false);
-    let is_gone = file.replace(b"a line\n").is_ok() && !fs::exists(rt, "sums.new").unwrap_or(true);
+    let mut file = ReplacedFile::of_catalog(rt, rt.alloc(), "catalog");
+    let is_made = file.read(rt.alloc()) == Ok(None)
+        && fs::exists(rt, "catalog.new").unwrap_or(false);
+    let is_gone = file.replace(b"a line\n").is_ok()
+        && !fs::exists(rt, "catalog.new").unwrap_or(true);
     is_made && is_gone
 }
 

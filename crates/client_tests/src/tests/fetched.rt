@@ -5,13 +5,13 @@ use super::check_row;
 use super::compared::{LABEL, LINE, OTHER_SUM, OTHER_VOLUME, reel};
 use super::fake::{FakePeer, Replies};
 use super::fixture::DEVICE;
+use catalog::Catalog;
 use dump_run::VolumeLabel;
 use rdump_fetch::{FetchFault, FetchSink, MemoryCopy, fetch_reel, push_copy_name};
 use rdump_net::ReadFault;
 use rdump_sums::ComparedSink;
 use std::alloc::{AllocError, Global};
 use std::test::Fail;
-use sum_lines::Sums;
 
 /// The requests for a whole reel of two blocks.
 const ALL_SENT: &[u8] =
@@ -51,7 +51,7 @@ const UNEQUAL: &[Replies] = &[&[
 /// Those for a reel that does not begin with a label.
 const FOREIGN: &[Replies] = &[&[b"A0\n", b"A1\n", b"A2\nab"]];
 
-/// The replies of a peer, a sums file, the result of the copy, and whether it is kept.
+/// The replies of a peer, a catalog, the result of the copy, and whether it is kept.
 type Row = (
     &'static [Replies],
     Option<&'static [u8]>,
@@ -73,12 +73,12 @@ static ROWS: [Row; 7] = [
 /// Whether a reel is copied as the row says. The requests are all sent only if the copy is kept.
 fn is_copied(alloc: Global, row: &Row) -> Result<bool, Fail> {
     let (replies, text, wanted, kept) = *row;
-    let sums = match text {
-        Some(text) => Sums::read(alloc, text).ok(),
+    let catalog = match text {
+        Some(text) => Catalog::read(alloc, text).ok(),
         None => None,
     };
     let mut peer = FakePeer::new(alloc, replies);
-    let mut sink = ComparedSink::new(FetchSink::new(MemoryCopy::new(alloc)), sums);
+    let mut sink = ComparedSink::new(FetchSink::new(MemoryCopy::new(alloc)), catalog);
     let result = fetch_reel(alloc, &mut peer, DEVICE, &mut sink);
     let copy = sink.sink().file();
     let is_whole = copy.bytes() == Some(reel(alloc, b"")?.as_slice());

@@ -48,7 +48,7 @@ pub(super) fn line(block: u64) -> DumpLine<'static>
         dumpdates: "dumpdates",
         date: None,
         checkpoint: None,
-        sums: None,
+        catalog: None,
         update: true,
         protect: false,
     }

@@ -93,7 +93,8 @@ fn listed(rt: &HostRuntime, path: &'static str) -> Result<u8, AllocError> {
         reels: ListedReels::Paths(paths),
         dumpdates: None,
         blocks: None,
-        sums: None,
+        catalog: None,
+        wanted: None,
     };
     Ok(run_ls(rt, line, NO_TERMINAL).code())
 }

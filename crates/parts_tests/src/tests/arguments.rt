@@ -17,7 +17,7 @@ fn is_shown<T: Debug>(alloc: Global, value: &T, wanted: &str) -> bool {
 /// Arguments of `rdump`, and the text of what is read from them.
 type Row = (&'static [&'static str], &'static str);
 
-static ROWS: [Row; 12] = [
+static ROWS: [Row; 14] = [
     (
         &["rdump", "dates", "--file", "f"],
         "Ok(Dates { file: \"f\", asked: None })",
@@ -46,11 +46,11 @@ static ROWS: [Row; 12] = [
             "--timeout=9223372036854775807",
             "--date=9223372036854775807",
             "--checkpoint=c",
-            "--sums=s",
+            "--catalog=s",
             "--update",
             "--protect",
         ],
-        "Ok(Dump(DumpLine { to: \"h:1\", device: \"d\", timeout: Some(9223372036854775807s), fs: \"/usr\", level: 1, payload: \"p\", block: 1024, dumpdates: \"f\", date: Some(9223372036854775807), checkpoint: Some(\"c\"), sums: Some(\"s\"), update: true, protect: true }))",
+        "Ok(Dump(DumpLine { to: \"h:1\", device: \"d\", timeout: Some(9223372036854775807s), fs: \"/usr\", level: 1, payload: \"p\", block: 1024, dumpdates: \"f\", date: Some(9223372036854775807), checkpoint: Some(\"c\"), catalog: Some(\"s\"), update: true, protect: true }))",
     ),
     (
         &[
@@ -66,19 +66,37 @@ static ROWS: [Row; 12] = [
             "--dumpdates=f",
             "--blocks",
             "2147483647",
-            "--sums",
+            "--catalog",
             "s",
             "a",
+            "--fs=/usr",
+            "--level=9",
+            "--date=7",
         ],
-        "Ok(List(ListLine { reels: Paths([\"b\", \"a\"]), dumpdates: Some(\"f\"), blocks: Some(2147483647), sums: Some(\"s\") }))",
+        "Ok(List(ListLine { reels: Paths([\"b\", \"a\"]), dumpdates: Some(\"f\"), blocks: Some(2147483647), catalog: Some(\"s\"), wanted: Some(WantedDumps { name: Some(\"/usr\"), level: Some(9), date: Some(7) }) }))",
     ),
     (
         &["rdump", "ls", "--device", "d", "--to", "h:1"],
-        "Ok(List(ListLine { reels: Drive { to: \"h:1\", device: \"d\", timeout: None }, dumpdates: None, blocks: None, sums: None }))",
+        "Ok(List(ListLine { reels: Drive { to: \"h:1\", device: \"d\", timeout: None }, dumpdates: None, blocks: None, catalog: None, wanted: None }))",
     ),
     (
-        &["rdump", "ls", "--device=d", "--to=h:1", "--sums=s"],
-        "Ok(List(ListLine { reels: Drive { to: \"h:1\", device: \"d\", timeout: None }, dumpdates: None, blocks: None, sums: Some(\"s\") }))",
+        &["rdump", "ls", "--device=d", "--to=h:1", "--catalog=s"],
+        "Ok(List(ListLine { reels: Drive { to: \"h:1\", device: \"d\", timeout: None }, dumpdates: None, blocks: None, catalog: Some(\"s\"), wanted: None }))",
+    ),
+    (
+        &[
+            "rdump",
+            "fetch",
+            "--to=h:1",
+            "--device=d",
+            "--into=f",
+            "--catalog=c",
+        ],
+        "Ok(Fetch(FetchLine { to: \"h:1\", device: \"d\", timeout: None, into: \"f\", catalog: Some(\"c\") }))",
+    ),
+    (
+        &["rdump", "cat", "r", "--level=0", "--length=5"],
+        "Ok(Cat(CatLine { paths: [\"r\"], name: None, level: Some(0), date: None, catalog: None, length: Some(5) }))",
     ),
     (
         &[
@@ -105,7 +123,7 @@ static ROWS: [Row; 12] = [
             "--block=1",
             "--dumpdates=f",
         ],
-        "Ok(Dump(DumpLine { to: \"unix:/s\", device: \"d\", timeout: Some(1s), fs: \"/\", level: 0, payload: \"p\", block: 1, dumpdates: \"f\", date: None, checkpoint: None, sums: None, update: false, protect: false }))",
+        "Ok(Dump(DumpLine { to: \"unix:/s\", device: \"d\", timeout: Some(1s), fs: \"/\", level: 0, payload: \"p\", block: 1, dumpdates: \"f\", date: None, checkpoint: None, catalog: None, update: false, protect: false }))",
     ),
     (
         &[
@@ -126,7 +144,7 @@ static ROWS: [Row; 12] = [
             "--to=unix:/s:1",
             "--device=d",
         ],
-        "Ok(List(ListLine { reels: Drive { to: \"unix:/s:1\", device: \"d\", timeout: Some(3600s) }, dumpdates: None, blocks: None, sums: None }))",
+        "Ok(List(ListLine { reels: Drive { to: \"unix:/s:1\", device: \"d\", timeout: Some(3600s) }, dumpdates: None, blocks: None, catalog: None, wanted: None }))",
     ),
     (
         &[
@@ -151,7 +169,7 @@ fn arguments_of_the_client(rt: HostRuntime) {
 }
 
 /// Arguments that are refused, and the first line of the message.
-static REFUSED: [Row; 12] = [
+static REFUSED: [Row; 15] = [
     (
         &["rdump", "ls"],
         "error: a FILE or a FOLDER is required, or --to and --device",
@@ -175,6 +193,18 @@ static REFUSED: [Row; 12] = [
     (
         &["rdump", "ls", "a", "--blocks=5"],
         "error: the following required arguments were not provided:",
+    ),
+    (
+        &["rdump", "ls", "a", "--fs=/"],
+        "error: --fs, --level and --date are given with --catalog only",
+    ),
+    (
+        &["rdump", "cat", "a"],
+        "error: --catalog or --length is required",
+    ),
+    (
+        &["rdump", "cat", "a", "--catalog=c", "--length=5"],
+        "error: --catalog or --length is given, and not both",
     ),
     (
         &["rdump", "ls", "--to=h:1"],

@@ -77,7 +77,7 @@ static DUMP: DumpLine<'static> = DumpLine {
     dumpdates: "dumpdates",
     date: None,
     checkpoint: None,
-    sums: None,
+    catalog: None,
     update: true,
     protect: false,
 };

@@ -1,32 +1,32 @@
 //! What a comparing sink does with a volume.
-ghost use Rattle.std.specs.Prelude.{◌≡◌};
-ghost use Rattle.rdump_sums.specs.Comparing.{ComparedStep, IsAdded, IsBegun, IsComparedAs};
+ghost use Rattle.std.specs.Prelude.{◌≡◌, ◌↔◌, IsTrue};
+ghost use Rattle.rdump_sums.specs.Comparing.{ComparedStep, IsAdded, IsBegun, IsComparedAs, IsRefused};
 
 use crate::ComparedSink;
+use catalog::SumVerdict;
 use dump_run::VolumeLabel;
 use rdump_net::{SinkStopped, Verdict, VolumeSink};
 use std::mem;
-use sum_lines::SumVerdict;
 use tape::is_record;
 use volume_sum::EntryHasher;
 
 impl<S: VolumeSink> VolumeSink for ComparedSink<S> {
     // label: The sink passes the first record on to the inner sink, and accepts the record if and
     // only if the inner sink accepts the record. After the call the sink has no verdict. If there
-    // is a sums file and the record has 1 to 262,144 bytes, the sum begins with this record.
+    // is a catalog and the record has 1 to 262,144 bytes, the sum begins with this record.
     //
     // block: The sink passes the block on to the inner sink, and accepts the block if and only if
-    // the inner sink accepts the block. If there is a sums file and the block has 1 to 262,144
+    // the inner sink accepts the block. If there is a catalog and the block has 1 to 262,144
     // bytes, the sink adds the block to the sum.
     //
     // mark: The sink passes the mark on to the inner sink, and adds the mark to the sum.
     //
     // complete: The sink compares the sum with the lines that have the volume's label. After the
-    // call, the sink has a verdict if and only if there is a sums file and the volume has a label.
-    // If the verdict is `Differs`, the sink does not complete the volume, and does not ask the
-    // inner sink to complete the volume. Otherwise the sink asks the inner sink to complete the
-    // volume. In this case, the sink completes the volume if and only if the inner sink completes
-    // the volume.
+    // call, the sink has a verdict if and only if there is a catalog and the volume has a label.
+    // If the verdict is `Differs`, `Anew` or `Void`, the sink does not complete the volume, and does
+    // not ask the inner sink to complete the volume. Otherwise the sink asks the inner sink to
+    // complete the volume. In this case, the sink completes the volume if and only if the inner
+    // sink completes the volume.
 
     ghost takes = { ComparedStep S.takes };
 
@@ -47,7 +47,7 @@ impl<S: VolumeSink> VolumeSink for ComparedSink<S> {
 
     fn complete(&mut self) -> Result<(), SinkStopped> {
         self.verdict = self.compare();
-        if self.verdict == Some(SumVerdict::Differs) {
+        if is_refused(self.verdict) {
             return Err(SinkStopped);
         }
         self.sink.complete()
@@ -66,7 +66,7 @@ impl<S: VolumeSink> ComparedSink<S> {
         self.add(record);
     }
 
-    /// Adds a record to the sum, if there is a sums file.
+    /// Adds a record to the sum, if there is a catalog.
     fn add(&mut self, record: &[u8])
         ensures same { self.new ≡ record self.old { hasher = self.new.hasher } }
         ensures added { IsAdded self.old self.new «record».now }
@@ -76,7 +76,7 @@ impl<S: VolumeSink> ComparedSink<S> {
         }
     }
 
-    /// Compares the sum of the records and the mark. Returns None if there is no sums file or no
+    /// Compares the sum of the records and the mark. Returns None if there is no catalog or no
     /// label.
     fn compare(&mut self) -> Option<SumVerdict>
         ensures same { self.new ≡ record self.old { hasher = self.new.hasher } }
@@ -86,5 +86,15 @@ impl<S: VolumeSink> ComparedSink<S> {
         let sums = self.sums.as_ref()?;
         let label = self.label.as_ref()?;
         Some(sums.compare(label, &hasher.sum()))
+    }
+}
+
+/// Whether a volume with this verdict is not completed.
+fn is_refused(verdict: Option<SumVerdict>) -> bool
+    ensures { IsTrue result ↔ IsRefused verdict }
+{
+    match verdict {
+        None | Some(SumVerdict::Equal) | Some(SumVerdict::Unknown) => false,
+        Some(SumVerdict::Differs) | Some(SumVerdict::Anew) | Some(SumVerdict::Void) => true,
     }
 }

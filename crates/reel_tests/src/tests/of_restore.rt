@@ -81,6 +81,8 @@ fn goes(alloc: Global, row: &Row) -> Result<bool, AllocError> {
         level: Some(0),
         date: None,
         length: 11,
+        volumes: None,
+        lines: None,
     };
     let mut bytes = Vec::new(alloc);
     let restored = restore(alloc, &mut shelf, &wanted, &mut Counted::new(&mut bytes));

@@ -1,7 +1,7 @@
 //! Dates as days of the calendar, as date(1) prints them.
 
 use super::calls::has_text;
-use dumpdates::{Dates, LAST_SECOND, as_name, date_text};
+use dumpdates::{Dates, LAST_SECOND, as_name, date_text, utc_text};
 use std::alloc::Global;
 
 /// Lines of entries. The name of each is its date N in seconds. The date is what
@@ -101,4 +101,21 @@ fn dates_as_texts(rt: HostRuntime) {
 fn bytes_as_names(rt: HostRuntime) {
     assert!(rt; as_name(b"/usr") == Some("/usr"));
     assert!(rt; as_name(b"/usr local").is_none());
+}
+
+/// Whether this is the text of a date in UTC.
+fn is_utc_text(date: u64, wanted: &str) -> bool {
+    match utc_text(date) {
+        Some(text) => text.as_str() == wanted,
+        None => false,
+    }
+}
+
+#[test]
+fn dates_in_utc(rt: HostRuntime) {
+    assert!(rt; is_utc_text(0, "1970-01-01 00:00:00"));
+    assert!(rt; is_utc_text(951782400, "2000-02-29 00:00:00"));
+    assert!(rt; is_utc_text(1795917605, "2026-11-29 02:00:05"));
+    assert!(rt; is_utc_text(LAST_SECOND, "9999-12-31 23:59:59"));
+    assert!(rt; utc_text(LAST_SECOND + 1).is_none());
 }

@@ -1,4 +1,4 @@
-use Rattle.std.proofs.Common.{◌≡◌, ◌∙◌, inl, inr, arith, sym, length}
+use Rattle.std.proofs.Common.{◌≡◌, ◌∙◌, inl, inr, arith, length}
 use Rattle.std.proofs.lemmas.List.Elements.{Contains-append_left, Contains-push}
 use Rattle.std.specs.Prelude.{Contains}
 use Rattle.restore.proofs.Chosen.{all_among, all_from, grown_all, none_left, one_on_reel, still_done}

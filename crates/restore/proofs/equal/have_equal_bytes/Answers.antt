@@ -1,4 +1,4 @@
-use Rattle.std.proofs.Common.{◌+◌, ◌≡◌, ◌∙◌, arith, take, drop, length, length-take, length-drop, length-append, ap, sym, subst, IsTrue, rules}
+use Rattle.std.proofs.Common.{◌≡◌, ◌∙◌, arith, take, drop, length, length-take, length-drop, length-append, IsTrue}
 use Rattle.restore.proofs.Pieces.{all_equal, more_equal}
 use Rattle.restore.proofs.equal.have_equal_bytes.Goals as goal
 

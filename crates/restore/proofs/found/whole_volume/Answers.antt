@@ -1,4 +1,4 @@
-use Rattle.std.proofs.Common.{◌≡◌, ◌∙◌, ap, arith, sym, refl}
+use Rattle.std.proofs.Common.{◌∙◌, ap, arith, sym, refl}
 use Rattle.reel_check.specs.declared.holding.Volume.{Volume}
 use Rattle.restore.proofs.Whole.{is_found, same_volume, size_bound, whole_file, whole_of}
 use Rattle.restore.proofs.found.whole_volume.Goals as goal

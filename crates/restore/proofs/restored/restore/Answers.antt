@@ -1,4 +1,4 @@
-use Rattle.std.proofs.Common.{◌≡◌, ap, length, subst, sym, take}
+use Rattle.std.proofs.Common.{ap, subst, sym, take}
 use Rattle.std.specs.Io.KnownBytes.{Appends}
 use Rattle.std.specs.List.{concat}
 use Rattle.rmt_wire.specs.ReplyWriter.{AppendsBeginning}

@@ -1,4 +1,4 @@
-use Rattle.std.proofs.Common.{drop, length-take, ◌+◌, ◌≡◌, arith}
+use Rattle.std.proofs.Common.{length-take, ◌+◌, arith}
 use Rattle.restore.proofs.Writing.{block_read}
 use Rattle.restore.proofs.write.read_block.Goals as goal
 

@@ -1,4 +1,4 @@
-use Rattle.std.proofs.Common.{◌+◌, ◌*◌, ◌≡◌, ◌<◌, arith, take, drop, get_or, []}
+use Rattle.std.proofs.Common.{◌≡◌, arith, take}
 use Rattle.std.proofs.lemmas.List.{take_all}
 use Rattle.restore.proofs.Blocks.{block_at}
 use Rattle.restore.proofs.Writing.{block_begun, block_written, blocks_begun, is_fault, none_written}

@@ -1,7 +1,6 @@
-use Rattle.std.proofs.Common.{◌+◌, ◌++◌, ◌≡◌, ◌∷◌, drop, ap, sym, append_assoc, ◌∙◌, arith}
+use Rattle.std.proofs.Common.{◌+◌, ◌++◌, ◌∷◌, drop, ap, sym, append_assoc, ◌∙◌, arith}
 use Rattle.std.proofs.lemmas.List.{drop_more}
 use Rattle.restore.proofs.Writing.{is_fault, volume_begun, volume_written}
-use Rattle.restore.specs.Written.{AreTheBlocks}
 use Rattle.restore.proofs.write.write_volumes.Goals as goal
 
 pub returns-in_err-left-clause-written : goal.returns-in_err-left-clause-written

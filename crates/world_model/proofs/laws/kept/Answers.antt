@@ -4,7 +4,7 @@ use Rattle.world_model.proofs.Lawfully.{counts_grow}
 use Rattle.world_model.proofs.Steppable.{steps}
 use Rattle.world_model.proofs.Talked.{requests, talks}
 use Rattle.world_model.proofs.NotReopenedAlone.{unopened, unwritten, own_opens}
-use Rattle.world_model.proofs.Restores.{dumps_come_back}
+use Rattle.world_model.proofs.Restores.{dumps_come_back, restoring}
 use Rattle.world_model.specs.First.{first_world}
 use Rattle.world_model.proofs.laws.kept.Goals as goal
 
@@ -36,7 +36,7 @@ returns c =
       counted_reels = reels_counted;
       counted_sums = λ w kept. sums_of w (reels_counted w kept);
       dumpdates_gained = dumpdates_gained;
-      dumps_come_back = dumps_come_back c.what_was_dumped_comes_back.ensures;
+      dumps_come_back = dumps_come_back (restoring c.what_was_dumped_comes_back.ensures.from_reels c.what_was_dumped_comes_back.ensures.from_catalog);
       sent_requests = sent_requests;
       requests = λ drives events w k sent carried good told. requests g k drives w events sent carried good told;
       talks = λ first w events k run. talks k first w events run;

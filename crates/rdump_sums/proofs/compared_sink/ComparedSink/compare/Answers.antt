@@ -1,5 +1,5 @@
 use Rattle.std.proofs.Common.{◌≡◌, List, ℕ, rules, subst}
-use Rattle.sum_lines.specs.Sums.{IsVerdict}
+use Rattle.catalog.specs.Verdict.{IsVerdict}
 use Rattle.volume_sum.specs.Hashing.{HoldsEntries}
 use Rattle.volume_sum.specs.declared.entry_hasher.EntryHasher.{EntryHasher}
 use Rattle.rdump_sums.proofs.compared_sink.ComparedSink.compare.Goals as goal

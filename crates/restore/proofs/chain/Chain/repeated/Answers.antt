@@ -1,4 +1,4 @@
-use Rattle.std.proofs.Common.{◌≡◌, ◌<◌, refl, length, ◌-◌, arith, sym}
+use Rattle.std.proofs.Common.{◌<◌, refl, length, ◌-◌, arith, sym}
 use Rattle.std.specs.Prelude.{Contains}
 use Rattle.restore.proofs.chain.Chain.repeated.Goals as goal
 

@@ -1,4 +1,3 @@
-use Rattle.std.proofs.Common.{◌≡◌, ◌++◌, ◌∷◌, [], arith}
 use Rattle.std.proofs.lemmas.Result.{IfOk-weaker}
 use Rattle.restore.proofs.ChainMore.{among_added, among_equal, ok_both, reel_within}
 use Rattle.restore.proofs.chain.Chain.take.Goals as goal

@@ -1,0 +1,4 @@
+pub mod LineText
+pub mod OneLine
+pub mod OneCatalog
+pub mod Last

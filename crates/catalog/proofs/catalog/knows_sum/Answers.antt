@@ -1,0 +1,12 @@
+use Rattle.std.proofs.Common.{refl}
+use Rattle.catalog.proofs.Last.{knows_sum_by, no_sum_by}
+use Rattle.catalog.proofs.catalog.knows_sum.Goals as goal
+
+pub returns-in-Some : goal.returns-in-Some
+returns-in-Some c =
+    knows_sum_by c.args.after.now c.args.label.now c.args.sum.now c.id.result.now c.volume.result c.in-Some.volume.now c.has.result c.id.ensures
+    c.volume.ensures.told c.in-Some.ensures.some.0 c.in-Some.ensures.some.1 c.has.ensures
+
+pub returns-in-None : goal.returns-in-None
+returns-in-None c =
+    no_sum_by c.args.after.now c.args.label.now c.args.sum.now c.id.result.now c.volume.result c.id.ensures c.volume.ensures.told (c.in-None.ensures.none refl)

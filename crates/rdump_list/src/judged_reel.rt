@@ -1,0 +1,38 @@
+//! A reel that was compared with a catalog.
+ghost use Rattle.std.specs.Prelude.{◌≡◌, ◌↔◌, IsTrue};
+ghost use Rattle.rdump_list.specs.DumpFound.{IsVolumeOf};
+
+use catalog::{CatalogRun, SumVerdict};
+use dump_run::VolumeLabel;
+
+/// A reel of a whole volume that was compared with a catalog.
+#[derive(Clone, Copy)]
+pub struct JudgedReel<'a> {
+    /// The label of the volume.
+    pub label: &'a VolumeLabel,
+    /// The result of the comparison of its sum.
+    pub verdict: SumVerdict,
+}
+
+impl<'a> JudgedReel<'a> {
+    /// Whether the reel counts as a volume of a dump: its sum is equal, and its label is that of a
+    /// line in force.
+    pub(crate) fn is_of(&self, run: &CatalogRun<'_>) -> bool
+        ensures { IsTrue result ↔ IsVolumeOf run.now self.now.label.now.volume self.now }
+    {
+        if self.verdict != SumVerdict::Equal {
+            return false;
+        }
+        match run.volume(self.label.volume()) {
+            Some(line) => are_same(line.label(), self.label),
+            None => false,
+        }
+    }
+}
+
+/// Whether two labels are the same.
+fn are_same(one: &VolumeLabel, other: &VolumeLabel) -> bool
+    ensures { IsTrue result ↔ (one.now ≡ other.now) }
+{
+    one.is_same_dump(other) && one.volume() == other.volume() && one.first() == other.first()
+}

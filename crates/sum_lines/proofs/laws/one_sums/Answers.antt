@@ -1,8 +1,0 @@
-use Rattle.sum_lines.proofs.OneSums.{one_list, no_bad_line}
-use Rattle.sum_lines.proofs.laws.one_sums.Goals as goal
-
-pub returns-clause-one : goal.returns-clause-one
-returns-clause-one c = one_list
-
-pub returns-clause-good : goal.returns-clause-good
-returns-clause-good c = no_bad_line
