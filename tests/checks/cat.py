@@ -385,7 +385,7 @@ class Shelves(CatCase):
         self.lay(THREE)
         for words, why in (
             (("--length", "1"), "a FILE or a FOLDER is required"),
-            (("r1",), "--catalog or --length is required"),
+            (("r1",), "--catalog, --length or --partial is required"),
             (("--length", "1", "--catalog", "c", "r1"), "--catalog or --length is given, and not both"),
             *(((f"--length={it}", "r1"), "invalid value for '--length <BYTES>'") for it in ("", "-1", "+1", " 1", "1k", "0x1", str(1 << 63))),
             *((("--length", "1", f"--level={it}", "r1"), "invalid value for '--level <LEVEL>'") for it in ("", "10", "-1", "a", "00")),

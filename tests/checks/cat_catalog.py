@@ -340,6 +340,14 @@ class Catalogs(CatalogCase):
             got = cat_with("--catalog", "c", "r1", "r2", "r3", folder=self.folder, stdout=full.fileno())
         self.same("a full disk", (got.status, b"standard output could not be written" in got.told), (FAILED, True), got)
 
+    def test_many_reels(self) -> None:
+        """A thousand reels, in an order that is not that of the volumes."""
+        payload = random.Random(11).randbytes(1000)
+        reels = reels_of(payload, 1, [(number, 1) for number in range(1000)])
+        self.lay({f"many/{number * 7 % 1000:03}": it for number, it in enumerate(reels)})
+        text = begun_line(USR, 1000) + b"".join(map(volume_line, reels)) + finished_line(USR, 1000, 1000, 1, 1000)
+        self.comes_back("a thousand reels", payload, text, "many")
+
     def test_no_blocks(self) -> None:
         """A dump of an empty payload."""
         reel = images([Label(*USR, 1, 0).record(), None])

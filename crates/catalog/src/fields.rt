@@ -1,5 +1,5 @@
-//! Cuts a line into its fields. What it returns for other texts than lines is of no use: the caller
-//! prints the line and compares the texts.
+//! Cuts a line into its fields. The caller prints the line that it gets and compares the texts, so
+//! the functions promise nothing for a text that is not a line.
 ghost use Rattle.std.specs.Prelude.{◌≡◌, ◌<◌, ◌⊎◌, ℕ, List, Some};
 ghost use Rattle.hex.specs.Hex.{encode_lower};
 ghost use Rattle.dump_run.specs.CheckpointParts.{IsCut};
@@ -77,7 +77,7 @@ impl Fields<'_> {
     }
 }
 
-/// Returns the sum that is written in hexadecimal digits, or None if it is none.
+/// Returns the sum that these hexadecimal digits spell, or None if they spell no sum.
 fn sum_of(digits: &[u8]) -> Option<[u8; 32]>
     ensures { (sum : List ℕ) → IsSum sum → digits.now ≡ encode_lower sum → result ≡ Some sum }
 {

@@ -1,5 +1,5 @@
-//! Reads the line at the beginning of a text. What it returns for other texts than lines is of no
-//! use: the caller prints the line and compares the texts.
+//! Reads the line at the beginning of a text. The caller prints the line that it gets and compares
+//! the texts, so the functions promise nothing for a text that is not a line.
 ghost use Rattle.std.specs.Prelude.{◌≡◌, ◌<◌, ◌⊎◌, ◌↔◌, ◌++◌, ℕ, IsTrue, List, Some};
 ghost use Rattle.dump_run.specs.DumpId.{PlainId, IsDumpId};
 ghost use Rattle.catalog.specs.DumpLines.{PlainFinished, IsFinished};
@@ -74,7 +74,7 @@ fn finished_of(
 }
 
 /// Returns the dump whose text is between `word` and the first `end`, and the bytes after that
-/// `end`. Returns None if there is none.
+/// `end`. Returns None if the text has no such dump.
 fn cut_id<'a>(bytes: &'a [u8], word: &[u8], end: u8) -> Option<(DumpId, &'a [u8])>
     requires { (end < 48) ⊎ (57 < end) }
     ensures { CutsId bytes.now word.now end result }

@@ -11,7 +11,7 @@
 //! # Contracts
 //!
 //! In an *attempt*, the client works on one volume and uses one connection. A *step* of an attempt
-//! is one request with its reply. docs/DUMP.md lists the steps. The *open* is the first step, and
+//! is one request with its reply. docs/WORLD.md lists the steps. The *open* is the first step, and
 //! the *close* is the last. The *look* is the step that reads the first record of the reel. A
 //! *script* is the list of an attempt's requests. For each request, the script has the replies that
 //! let the attempt continue: the *wanted* replies. There is one script for each possible number of

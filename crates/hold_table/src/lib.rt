@@ -16,7 +16,7 @@
 //!
 //! Each call of `take`, `give` or `holder` gets a shared reference to the table, a seat, and a
 //! drive. No call of the table waits, and none gets the Rattle kit's handle for waiting.
-//! docs/THREADS.md says what a table without locks means for a server.
+//! docs/WORLD.md says what a table without locks means for a server.
 //!
 //! Each of `take`, `give` and `holder` gets only one seat. So the clause `rule` of these calls
 //! cannot name the table's words or the table's other seats. The clause only says that some words

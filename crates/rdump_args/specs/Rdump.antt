@@ -1,5 +1,5 @@
 -- The limits of the arguments of `rdump`. Public contracts cite it.
-use Rattle.std.specs.Prelude.{◌≡◌, ◌↔◌, ◌≤◌, ◌<◌, ◌*◌, ℕ, Option, None, Some, IfSome, MatchOption, IsSome, ⊤, length}
+use Rattle.std.specs.Prelude.{◌≡◌, ◌≤◌, ◌<◌, ◌*◌, ℕ, Bool, true, Option, None, Some, IfSome, MatchOption, IsSome, ⊤, length}
 use Rattle.std.specs.Borrow.{Bor}
 use Rattle.std.specs.Duration.{as_nanos}
 use Rattle.std.specs.declared.time.Duration.{Duration}
@@ -43,12 +43,19 @@ IsReadLine line = IsDevice line.device.now
 abbrev pub IsFetchLine : FetchLine → Type 0
 IsFetchLine line = IsDevice line.device.now
 
+-- There is never both a length and a catalog. If the payload has to be whole, there is one of them.
+abbrev pub IsOneGiven : {X : Type 0} → Option ℕ → Option X → Bool → Type 0
+IsOneGiven (Some length) (Some catalog) is_partial = ⊥
+IsOneGiven (Some length) None is_partial = Unit {0}
+IsOneGiven None (Some catalog) is_partial = Unit {0}
+IsOneGiven None None is_partial = is_partial ≡ true
+
 -- There is a path, the level is one that a dump can have, and the numbers are at most
--- `ARGUMENT_LIMIT`. Either a length or a catalog is given.
+-- `ARGUMENT_LIMIT`. The length of the payload is known from one source at most.
 abbrev pub IsCatLine : CatLine → Type 0
 IsCatLine line =
     (0 < length line.paths.items) × IfSome line.level (λ n. n ≤ 9) × IfSome line.date (λ n. n ≤ ARGUMENT_LIMIT)
-    × IfSome line.length (λ n. n ≤ ARGUMENT_LIMIT) × (IsSome line.length ↔ (line.catalog ≡ None))
+    × IfSome line.length (λ n. n ≤ ARGUMENT_LIMIT) × IsOneGiven line.length line.catalog line.is_partial
 
 -- the reels to list are those at the paths, at least one, or those of a drive
 abbrev pub IsListedReels : ListedReels → Type 0

@@ -1,9 +1,9 @@
 //! The arguments of `rdump cat`.
-ghost use Rattle.std.specs.Prelude.{◌≡◌, ◌↔◌, ◌≤◌, ◌<◌, IfOk, IfSome, IsSome, None, length};
-ghost use Rattle.rdump_args.specs.Rdump.{IsCatLine};
+ghost use Rattle.std.specs.Prelude.{◌≡◌, ◌≤◌, ◌<◌, IfOk, IfSome, length};
+ghost use Rattle.rdump_args.specs.Rdump.{IsCatLine, IsOneGiven};
 ghost use Rattle.rmt_wire.specs.declared.argument.TheConstants.{ARGUMENT_LIMIT};
 
-use crate::argument::{ArgumentSpec, Form};
+use crate::argument::{ArgumentSpec, Form, is_given};
 use crate::dates_line::level_of;
 use crate::fault::ArgumentFault;
 use clap::ArgMatches;
@@ -23,16 +23,18 @@ pub struct CatLine<'a> {
     pub date: Option<u64>,
     /// The path of the catalog that has the dump, or None to have none.
     pub catalog: Option<&'a str>,
-    /// The length of the payload in bytes, or None if a catalog is given. It is given exactly
-    /// if no catalog is.
+    /// The length of the payload in bytes, or None if it is not given. It is given if there is
+    /// neither a catalog nor `--partial`, and never with a catalog.
     pub length: Option<u64>,
+    /// Whether a payload is written of which parts are missing.
+    pub is_partial: bool,
 }
 
 /// The message if no reel is named.
 const NO_REEL: &str = "a FILE or a FOLDER is required";
 
 /// The message if the length of the payload is not known.
-const NO_LENGTH: &str = "--catalog or --length is required";
+const NO_LENGTH: &str = "--catalog, --length or --partial is required";
 
 /// The message if the length is given twice.
 const TWO_LENGTHS: &str = "--catalog or --length is given, and not both";
@@ -59,7 +61,8 @@ pub(crate) fn cat_in<'a>(
     let level = level_in(matches.get_str("level"))?;
     let date = date_in(matches.get_str("date"))?;
     let catalog = matches.get_str("catalog");
-    let length = length_in(matches.get_str("length"), catalog)?;
+    let is_partial = is_given(matches, "partial");
+    let length = length_in(matches.get_str("length"), catalog, is_partial)?;
     let paths = match matches.get_strs("path") {
         Some(paths) => paths_of(alloc, paths)?,
         None => return Err(ArgumentFault::Missing(NO_REEL)),
@@ -71,6 +74,7 @@ pub(crate) fn cat_in<'a>(
         date,
         catalog,
         length,
+        is_partial,
     })
 }
 
@@ -87,15 +91,19 @@ fn paths_of<'a>(alloc: Global, paths: &[&'a str]) -> Result<Vec<&'a str>, Argume
     }
 }
 
-/// Returns the length in a text, if there is a text. Fails if it is no number, or unless either the
-/// text or a catalog is given.
-fn length_in(text: Option<&str>, catalog: Option<&str>) -> Result<Option<u64>, ArgumentFault>
+/// Returns the length in a text, if there is a text. Fails if it is no number, if there is a catalog
+/// too, or if there is neither of these and the payload has to be whole.
+fn length_in(
+    text: Option<&str>,
+    catalog: Option<&str>,
+    is_partial: bool,
+) -> Result<Option<u64>, ArgumentFault>
     ensures number { IfOk result (λ length. IfSome length (λ n. n ≤ ARGUMENT_LIMIT)) }
-    ensures one { IfOk result (λ length. IsSome length ↔ (catalog.entry ≡ None)) }
+    ensures one { IfOk result (λ length. IsOneGiven length catalog.entry is_partial) }
 {
     match (text, catalog) {
-        (None, None) => Err(ArgumentFault::Missing(NO_LENGTH)),
-        (None, Some(_)) => Ok(None),
+        (None, None) if !is_partial => Err(ArgumentFault::Missing(NO_LENGTH)),
+        (None, _) => Ok(None),
         (Some(_), Some(_)) => Err(ArgumentFault::Conflict(TWO_LENGTHS)),
         (Some(text), None) => match number_of(text) {
             Some(length) => Ok(Some(length)),
@@ -131,7 +139,7 @@ pub(crate) fn date_in(text: Option<&str>) -> Result<Option<u64>, ArgumentFault>
 }
 
 /// The arguments of `rdump cat`.
-pub(crate) static CAT_ARGUMENTS: [ArgumentSpec; 6] = [
+pub(crate) static CAT_ARGUMENTS: [ArgumentSpec; 7] = [
     ArgumentSpec {
         name: "path",
         value: "FILE|FOLDER",
@@ -151,6 +159,13 @@ pub(crate) static CAT_ARGUMENTS: [ArgumentSpec; 6] = [
         value: "BYTES",
         help: "The length of the payload, if there is no catalog",
         form: Form::Optional,
+        missing: "",
+    },
+    ArgumentSpec {
+        name: "partial",
+        value: "",
+        help: "Write zero bytes for each block that is missing, and end with status 3",
+        form: Form::Flag,
         missing: "",
     },
     ArgumentSpec {

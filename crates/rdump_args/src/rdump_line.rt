@@ -79,8 +79,9 @@ pub fn rdump_args<'a, S: AsStr>(alloc: Global, arguments: &'a [S]) -> Result<Rdu
     // blocks is at most 2147483647. The level of the dumps to look for, if given, is at most 9, and
     // their date is at most 9223372036854775807.
     //
-    // For `cat`, the arguments name one or more paths, and either a length or a catalog. The level, if given, is at most 9. The date and the length, if given, are at most
-    // 9223372036854775807.
+    // For `cat`, the arguments name one or more paths. They never contain both a length and a
+    // catalog, and they contain one of them unless `--partial` is given. The level, if given, is at
+    // most 9. The date and the length, if given, are at most 9223372036854775807.
     //
     // For `dump`, the level, the block size and the date, if given, are at most
     // 9223372036854775807.

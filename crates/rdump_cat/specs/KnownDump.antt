@@ -24,3 +24,13 @@ IsNotKnown lines id NotFinished = (run : CatalogRun) × IsRunIn lines id (Some r
 abbrev pub wanted_by : List CatalogLine → PlainId → PlainFinished → PlainWanted
 wanted_by lines id f =
     record { name = Some id.name; level = Some id.level; date = Some id.date; length = f.bytes; volumes = Some f.volumes; lines = Some lines }
+
+-- No line of the catalog says that the dump began.
+abbrev pub IsNoDump : List CatalogLine → PlainId → NotKnown → Type 0
+IsNoDump lines id why = (why ≡ NoDump) × HasNone (Begins id) lines
+
+-- What is wanted of a dump of which parts may be missing: the length is that of the last line with
+-- which the dump began.
+abbrev pub ArePartsOf : List CatalogLine → PlainId → PlainWanted → Type 0
+ArePartsOf lines id wanted = (run : CatalogRun) × IsRunIn lines id (Some run)
+    × (wanted ≡ record { name = Some id.name; level = Some id.level; date = Some id.date; length = run.begun.now.bytes; volumes = None; lines = Some lines })

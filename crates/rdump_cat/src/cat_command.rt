@@ -2,18 +2,17 @@
 use crate::dumps::{dumps_of, print_dumps};
 use crate::file_shelf::FileShelf;
 use crate::known_dump::{finished_line, wanted_of};
-use crate::outcome::status_of;
+use crate::known_parts::parts_of;
+use crate::outcome::{status_of, status_of_parts};
 use crate::report::{
-    print_changed, print_no_volume, print_not_known, print_refusal, print_unreadable,
+    print_changed, print_gaps, print_no_volume, print_not_known, print_refusal, print_unreadable,
     print_unwritten,
 };
 use crate::watched::Watched;
-use catalog::Catalog;
-use dump_run::DumpId;
 use exit_status::ExitStatus;
 use rdump_args::CatLine;
 use rdump_list::{ListSystem, ReelPath, ReelPaths, read_catalog};
-use restore::{Refusal, RestoreFault, Wanted, restore};
+use restore::{Refusal, RestoreFault, Wanted, restore, restore_partial};
 use rmt_wire::Counted;
 use std::alloc::AllocError;
 use std::io::{self, Write};
@@ -26,6 +25,11 @@ use std::io::{self, Write};
 /// the sum of each must be that of the line in force. Other reels of the dump are set aside, each
 /// named on standard error.
 ///
+/// With `is_partial` it writes what the reels have, with zero bytes for each block that is missing,
+/// and prints the numbers of these blocks. It then never succeeds. The length is that with which
+/// the catalog says that the dump began, or the given one. If there is neither, the last volume
+/// ends the payload.
+///
 /// Returns the exit status:
 ///
 /// - `Success` if the whole payload was written. Also if the reader of standard output closed it
@@ -34,7 +38,7 @@ use std::io::{self, Write};
 ///   more than one dump that is wanted, an allocation fails, or standard output cannot be written.
 /// - `Abnormal` if a volume is missing, or the files are not those of one dump with a payload of
 ///   this length, or the catalog does not have the dump as finished. Nothing was written then. Also
-///   if a file was changed after it was checked.
+///   if a file was changed after it was checked, and for each payload of which parts may be missing.
 ///
 /// Errors are printed on standard error.
 pub fn run_cat<R: ListSystem, T: Write + Drop>(
@@ -68,102 +72,136 @@ fn cat<R: ListSystem, T: Write + Drop>(
         volumes: None,
         lines: None,
     };
+    let run = CatRun {
+        rt,
+        paths: &paths,
+        is_partial: line.is_partial,
+    };
     match line.catalog {
-        Some(path) => cat_of_catalog(rt, path, &paths, &wanted, terminal),
-        None => cat_of_length(rt, &paths, &wanted, terminal),
+        Some(path) => run.by_catalog(path, &wanted, terminal),
+        None if line.is_partial => run.write_parts(&wanted, line.length, terminal),
+        None => run.by_length(&wanted, terminal),
     }
 }
 
-/// Writes the payload of the length that is wanted, and returns the exit status. If it succeeds, it
-/// prints what it cannot know. Fails if an allocation fails.
-fn cat_of_length<R: ListSystem, T: Write + Drop>(
-    rt: &R,
-    paths: &[ReelPath],
-    wanted: &Wanted<'_>,
-    terminal: Option<T>,
-) -> Result<ExitStatus, AllocError> {
-    let status = write_payload(rt, paths, wanted, terminal)?;
-    if status == ExitStatus::Success {
-        let _ = eprintln!(rt;
-            "rdump: without a catalog: two payloads of one name, level and dates look alike"
-        );
-    }
-    Ok(status)
+/// One run of the command.
+#[derive(Clone, Copy)]
+struct CatRun<'a, R: ListSystem> {
+    rt: &'a R,
+    /// The record files.
+    paths: &'a [ReelPath],
+    /// Whether parts of the payload may be missing.
+    is_partial: bool,
 }
 
-/// Writes the payload of the dump that the reels have, if the catalog at this path has it as
-/// finished. Returns the exit status. Fails if an allocation fails.
-fn cat_of_catalog<R: ListSystem, T: Write + Drop>(
-    rt: &R,
-    path: &str,
-    paths: &[ReelPath],
-    wanted: &Wanted<'_>,
-    terminal: Option<T>,
-) -> Result<ExitStatus, AllocError> {
-    let Some(catalog) = read_catalog(rt, path)? else {
-        return Ok(ExitStatus::StartupError);
-    };
-    let Some(dumps) = dumps_of(rt, paths, wanted)? else {
-        return Ok(ExitStatus::StartupError);
-    };
-    match dumps.as_slice() {
-        [] => Ok(print_no_volume(rt)),
-        [id] => cat_of_dump(rt, path, paths, &catalog, id, terminal),
-        dumps => print_dumps(rt, dumps),
-    }
-}
-
-/// Writes the payload of this dump, if the catalog, which is at this path, has it as finished.
-/// Returns the exit status. Fails if an allocation fails.
-fn cat_of_dump<R: ListSystem, T: Write + Drop>(
-    rt: &R,
-    path: &str,
-    paths: &[ReelPath],
-    catalog: &Catalog,
-    id: &DumpId,
-    terminal: Option<T>,
-) -> Result<ExitStatus, AllocError> {
-    match finished_line(catalog, id) {
-        Ok(finished) => write_payload(rt, paths, &wanted_of(catalog, id, finished), terminal),
-        Err(why) => Ok(print_not_known(rt, path, why)),
-    }
-}
-
-/// Writes the payload that is wanted, and returns the exit status. Fails if an allocation fails.
-fn write_payload<R: ListSystem, T: Write + Drop>(
-    rt: &R,
-    paths: &[ReelPath],
-    wanted: &Wanted<'_>,
-    terminal: Option<T>,
-) -> Result<ExitStatus, AllocError> {
-    let mut shelf = FileShelf::new(rt, paths, terminal);
-    let mut out = Counted::new(Watched::new(io::writer(rt)));
-    let restored = restore(rt.alloc(), &mut shelf, wanted, &mut out);
-    shelf.clear();
-    let out = out.into_inner();
-    match restored {
-        Ok(()) => {}
-        Err(RestoreFault::Refused(Refusal::OutOfMemory)) => return Err(AllocError),
-        Err(RestoreFault::Refused(Refusal::TwoDumps { .. })) => {
-            return print_wanted_dumps(rt, paths, wanted);
+impl<R: ListSystem> CatRun<'_, R> {
+    /// Writes the payload of the length that is wanted, and returns the exit status. If it succeeds,
+    /// it prints what it cannot know. Fails if an allocation fails.
+    fn by_length<T: Write + Drop>(
+        &self,
+        wanted: &Wanted<'_>,
+        terminal: Option<T>,
+    ) -> Result<ExitStatus, AllocError> {
+        let status = self.write_payload(wanted, terminal)?;
+        if status == ExitStatus::Success {
+            let _ = eprintln!(self.rt;
+                "rdump: without a catalog: two payloads of one name, level and dates look alike"
+            );
         }
-        Err(RestoreFault::Refused(refusal)) => print_refusal(rt, paths, refusal, shelf.fault()),
-        Err(RestoreFault::Reel { reel }) => print_changed(rt, paths, reel),
-        Err(RestoreFault::Output) => print_unwritten(rt, out.fault()),
+        Ok(status)
     }
-    Ok(status_of(&restored, out.is_closed()))
-}
 
-/// Prints the dumps that are wanted, of which the reels have volumes. Returns `StartupError`. Fails
-/// if an allocation fails.
-fn print_wanted_dumps<R: ListSystem>(
-    rt: &R,
-    paths: &[ReelPath],
-    wanted: &Wanted<'_>,
-) -> Result<ExitStatus, AllocError> {
-    match dumps_of(rt, paths, wanted)? {
-        Some(dumps) => print_dumps(rt, &dumps),
-        None => Ok(ExitStatus::StartupError),
+    /// Writes the payload of the dump that the reels have, if the catalog at this path knows it.
+    /// Returns the exit status. Fails if an allocation fails.
+    fn by_catalog<T: Write + Drop>(
+        &self,
+        path: &str,
+        wanted: &Wanted<'_>,
+        terminal: Option<T>,
+    ) -> Result<ExitStatus, AllocError> {
+        let Some(catalog) = read_catalog(self.rt, path)? else {
+            return Ok(ExitStatus::StartupError);
+        };
+        let Some(dumps) = dumps_of(self.rt, self.paths, wanted)? else {
+            return Ok(ExitStatus::StartupError);
+        };
+        let id = match dumps.as_slice() {
+            [] => return Ok(print_no_volume(self.rt)),
+            [id] => id,
+            dumps => return print_dumps(self.rt, dumps),
+        };
+        if self.is_partial {
+            return match parts_of(&catalog, id) {
+                Ok(wanted) => self.write_parts(&wanted, Some(wanted.length), terminal),
+                Err(why) => Ok(print_not_known(self.rt, path, why)),
+            };
+        }
+        match finished_line(&catalog, id) {
+            Ok(line) => self.write_payload(&wanted_of(&catalog, id, line), terminal),
+            Err(why) => Ok(print_not_known(self.rt, path, why)),
+        }
+    }
+
+    /// Writes the payload that is wanted, and returns the exit status. Fails if an allocation fails.
+    fn write_payload<T: Write + Drop>(
+        &self,
+        wanted: &Wanted<'_>,
+        terminal: Option<T>,
+    ) -> Result<ExitStatus, AllocError> {
+        let mut shelf = FileShelf::new(self.rt, self.paths, terminal);
+        let mut out = Counted::new(Watched::new(io::writer(self.rt)));
+        let restored = restore(self.rt.alloc(), &mut shelf, wanted, &mut out);
+        shelf.clear();
+        let out = out.into_inner();
+        if let Err(fault) = restored {
+            self.print_fault(wanted, fault, shelf.fault(), out.fault())?;
+        }
+        Ok(status_of(&restored, out.is_closed()))
+    }
+
+    /// Writes what the reels have of the payload that is wanted, of this length if it is known.
+    /// Prints which blocks are missing, and returns the exit status. Fails if an allocation fails.
+    fn write_parts<T: Write + Drop>(
+        &self,
+        wanted: &Wanted<'_>,
+        length: Option<u64>,
+        terminal: Option<T>,
+    ) -> Result<ExitStatus, AllocError> {
+        let mut shelf = FileShelf::new(self.rt, self.paths, terminal);
+        let mut out = Counted::new(Watched::new(io::writer(self.rt)));
+        let restored = restore_partial(self.rt.alloc(), &mut shelf, wanted, length, &mut out);
+        shelf.clear();
+        let out = out.into_inner();
+        match &restored {
+            Ok(gaps) => print_gaps(self.rt, gaps),
+            Err(fault) => self.print_fault(wanted, *fault, shelf.fault(), out.fault())?,
+        }
+        Ok(status_of_parts(&restored, out.is_closed()))
+    }
+
+    /// Prints why a payload was not restored. `opened` is why a file could not be opened, and
+    /// `written` why the output failed. Fails if an allocation fails, or if one failed before.
+    fn print_fault(
+        &self,
+        wanted: &Wanted<'_>,
+        fault: RestoreFault,
+        opened: Option<io::Error>,
+        written: Option<io::Error>,
+    ) -> Result<(), AllocError> {
+        match fault {
+            RestoreFault::Refused(Refusal::OutOfMemory) => return Err(AllocError),
+            RestoreFault::Refused(Refusal::TwoDumps { .. }) => {
+                if let Some(dumps) = dumps_of(self.rt, self.paths, wanted)? {
+                    print_dumps(self.rt, &dumps)?;
+                }
+            }
+            RestoreFault::Refused(refusal) => {
+                print_refusal(self.rt, self.paths, refusal, opened);
+            }
+            RestoreFault::Reel { reel } => print_changed(self.rt, self.paths, reel),
+            RestoreFault::Output => print_unwritten(self.rt, written),
+        }
+        Ok(())
     }
 }
 

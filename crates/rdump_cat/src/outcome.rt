@@ -1,9 +1,9 @@
 //! How `rdump cat` ends.
 ghost use Rattle.std.specs.Prelude.{◌≡◌};
-ghost use Rattle.rdump_cat.specs.Outcome.{cat_status, refused_status};
+ghost use Rattle.rdump_cat.specs.Outcome.{cat_status, parts_status, refused_status};
 
 use exit_status::ExitStatus;
-use restore::{Refusal, RestoreFault};
+use restore::{Gap, Refusal, RestoreFault};
 
 /// Returns the exit status of `rdump cat`, given what came of the restore. `is_closed` says whether
 /// the reader of standard output closed it.
@@ -21,6 +21,21 @@ pub fn status_of(restored: &Result<(), RestoreFault>, is_closed: bool) -> ExitSt
         Err(RestoreFault::Output) => ExitStatus::StartupError,
         Err(RestoreFault::Reel { .. }) => ExitStatus::Abnormal,
         Err(RestoreFault::Refused(refusal)) => status_of_refusal(*refusal),
+    }
+}
+
+/// Returns the exit status of `rdump cat --partial`, given what came of the restore. `is_closed` says
+/// whether the reader of standard output closed it.
+pub fn status_of_parts(restored: &Result<Vec<Gap>, RestoreFault>, is_closed: bool) -> ExitStatus
+    // The status is never `Success`. It is `StartupError` if the output failed and its reader did
+    // not close it, and if the restore was refused because an allocation failed, a reel could not
+    // be read, or reels of two dumps are wanted. Otherwise it is `Abnormal`.
+    ensures { result ≡ parts_status restored.now is_closed }
+{
+    match restored {
+        Err(RestoreFault::Output) if !is_closed => ExitStatus::StartupError,
+        Err(RestoreFault::Refused(refusal)) => status_of_refusal(*refusal),
+        Ok(_) | Err(RestoreFault::Output | RestoreFault::Reel { .. }) => ExitStatus::Abnormal,
     }
 }
 

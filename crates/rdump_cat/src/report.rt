@@ -3,7 +3,7 @@ use crate::known_dump::NotKnown;
 use exit_status::ExitStatus;
 use printable::plain;
 use rdump_list::ReelPath;
-use restore::Refusal;
+use restore::{Gap, Refusal};
 use std::io::{self, ErrorKind};
 
 /// What to do if reels that would be needed are not there.
@@ -90,6 +90,19 @@ pub(crate) fn print_unreadable<R: Eprint>(rt: &R, path: &str, error: Option<io::
         Some(error) => eprintln!(rt; "rdump: {path}: {error}"),
         None => eprintln!(rt; "rdump: {path}: it could not be read"),
     };
+}
+
+/// Prints which blocks are missing, or that none is.
+pub(crate) fn print_gaps<R: Eprint>(rt: &R, gaps: &[Gap]) {
+    if gaps.is_empty() {
+        let _ = eprintln!(rt; "rdump: --partial: no block is missing");
+    }
+    for gap in gaps {
+        let (first, last) = (gap.first, gap.end.saturating_sub(1));
+        let _ = eprintln!(rt;
+            "rdump: blocks {first} to {last} are missing: zero bytes are in their place"
+        );
+    }
 }
 
 /// Prints that a file could not be read again as it was.

@@ -83,8 +83,9 @@ fn refuse_unwritable<R: ClientSystem>(rt: &R, path: &str) -> Option<ExitStatus>
 }
 
 /// Begins the dump in the catalog that `line` names, and returns this catalog. A dump that is
-/// resumed does not begin again if one line says that it began, or if it has counted volumes: if the catalog does not have them, prints why
-/// and enters nothing. Returns the exit status, after it printed why, if the dump must not begin.
+/// resumed does not begin again if exactly one line says that it began, or if it has counted
+/// volumes. If the catalog does not have these, it prints why and enters nothing. Returns the exit
+/// status, after it printed why, if the dump must not begin.
 pub(crate) fn begin_catalog<'a, R: ClientSystem, B: Blocks, T: Write + Drop>(
     rt: &'a R,
     line: &DumpLine<'a>,

@@ -36,8 +36,9 @@ pub fn fetch_reel<P: Peer, F: CopyFile>(
     // The call sends MTOFFL, which moves the reel to the bin, only if the first record that was
     // read is a label, and the copy of this label is kept. The copy is exactly the record file of
     // the records that were read, followed by one mark. If there is a catalog, its verdict on the
-    // label and the sum of this record file is `Equal` or `Unknown`: a line in force has both, or
-    // no line in force has the label, and no other line has both.
+    // label and the sum of this record file is `Equal` or `Unknown`. `Equal` means that a line in
+    // force has both. `Unknown` means that no line in force has the label, and that no other line
+    // has both.
     ensures kept { IsTakenAwayOnlyIfCopied (sink_kind P.tells (ComparedStep (CopyStep (copy_kind F.holds F.synced F.placed F.kept))))
         (copy_kind F.holds F.synced F.placed F.kept) device.now (sink_ends peer.old sink.old) (sink_ends peer.new sink.new) result }
 {

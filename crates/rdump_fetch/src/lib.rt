@@ -9,7 +9,7 @@
 //!
 //! The *entries* of a reel are its records and marks. A *record file* contains the entries of a
 //! reel in order. A record is written as its length, its bytes and its length again. A mark is
-//! written as the length 0. Each length takes 4 bytes. docs/REELS.md describes record files.
+//! written as the length 0. Each length takes 4 bytes. rdump(5) describes record files.
 //!
 //! A *copy* is a record file that is made of a reel. The copy contains the records of the reel up
 //! to the first mark, and one mark. The copy belongs to the label that the reel begins with, and

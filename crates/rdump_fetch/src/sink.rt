@@ -123,8 +123,8 @@ impl<F: CopyFile> FetchSink<F> {
         self.file.leave();
     }
 
-    /// Returns the volume that is copied, if its label was read. Of a copy that could not be begun it
-    /// counts nothing but the label.
+    /// Returns the volume that is copied, if its label was read. If the copy could not be begun, the
+    /// volume has the label and no block.
     pub fn volume(&self) -> Option<&CopiedVolume> {
         self.volume.as_ref()
     }

@@ -1,4 +1,4 @@
-//! What is there of a dump of a catalog.
+//! The volumes of a dump of a catalog that are missing.
 ghost use Rattle.std.specs.Prelude.{◌≡◌, ◌↔◌, ◌++◌, IfOk, IsTrue, OnOk, flat_map};
 ghost use Rattle.rdump_list.specs.DumpFound.{AreNumbersOf, IsAllThere, IsFoundIn, IsFoundOf};
 ghost use Rattle.rdump_list.specs.FoundText.{found_text, missing_text, next_range_text, range_text};
@@ -10,20 +10,20 @@ use catalog::{Catalog, CatalogRun};
 use dump_run::DumpId;
 use std::alloc::{AllocError, Global};
 
-/// What is there of a dump of a catalog.
+/// Whether a dump of a catalog is finished, and which of its volumes are missing.
 #[derive(Drop)]
 pub enum CatalogDump {
     /// No line in force says that the dump is finished.
     NotFinished,
     /// The dump is finished.
     Finished {
-        /// The volumes that are missing, in order. There is none if all volumes are there.
+        /// The volumes that are missing, in order. It is empty if all volumes are there.
         missing: Vec<VolumeRange>,
     },
 }
 
-/// Returns what is there of a dump of a catalog, given these reels of whole volumes. Returns None if
-/// the catalog has no such dump.
+/// Returns which volumes of a dump of a catalog are missing, given these reels of whole volumes.
+/// Returns None if the catalog has no such dump.
 ///
 /// A reel counts as a volume of the dump only if its verdict is `Equal`, and its label is that of
 /// the line in force of this volume.
@@ -38,8 +38,8 @@ pub fn dump_in(
     // The call looks only at the lines that follow the last one with which the dump began. If no
     // line says that the dump began, the call returns `None`. If none of the lines in force says
     // that the dump is finished, the call returns `NotFinished`. Otherwise it returns the missing
-    // volumes: a volume is missing if its number is at most the number of volumes of the finished
-    // dump, and no reel has the verdict `Equal` and the label of the line in force of this volume.
+    // volumes. The volumes of the finished dump are numbered from 1. One of them is missing if no
+    // reel has the verdict `Equal` and the label of the volume's line in force.
     ensures { IfOk result (IsFoundIn catalog.now id.now reels.now) }
 {
     match catalog.run(id) {

@@ -10,7 +10,7 @@ use rdump_args::WantedDumps;
 use std::alloc::{AllocError, Global};
 use std::io::Write;
 
-/// What was printed of the dumps of a catalog.
+/// Whether dumps of a catalog were printed, and whether all their volumes are there.
 #[derive(Clone, Copy)]
 pub(crate) struct DumpsPrinted {
     /// Whether the arguments name dumps, and one was printed.

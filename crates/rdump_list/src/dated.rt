@@ -26,8 +26,8 @@ pub fn push_date(text: &mut Vec<u8>, before: &[u8], date: u64) -> Result<(), All
     }
 }
 
-/// Appends the name, the level and the dates of a dump, each date with its UTC text in brackets. A
-/// base date of 0 means that there is none, and gets no text.
+/// Appends the name, the level and the dates of a dump, each date with its UTC text in brackets. The
+/// base date 0 gets no text: the dump has no base.
 ///
 /// Fails if an allocation fails.
 pub fn push_dated_id(text: &mut Vec<u8>, id: &DumpId) -> Result<(), AllocError>

@@ -19,8 +19,8 @@ pub struct ReelPath {
 }
 
 impl ReelPath {
-    /// Whether there is a record file to read. Of the names in a folder, those of plain files count
-    /// that still exist. Fails if the system does.
+    /// Whether there is a record file to read. A name that was listed in a folder counts if a plain
+    /// file still has it. Fails if the system does.
     pub fn is_there<R: ListSystem>(&self, rt: &R) -> io::Result<bool> {
         if !self.is_listed {
             return Ok(true);

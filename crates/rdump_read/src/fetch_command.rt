@@ -29,18 +29,18 @@ pub(crate) type FolderSink<'a, R, T> = ComparedSink<FetchSink<FolderCopy<'a, R, 
 /// - Once the copy is synced, it gets its name by a hard link, so that no file is replaced. Then the
 ///   name of the part is removed, and the folder is synced. A file that has the name already is
 ///   compared with the part, and synced if it has the same bytes.
-/// - A reel moves to the bin after that. It stays if it does not begin with a label, no mark was
-///   found after its records, its blocks have two lengths, its sum differs from that in the
-///   catalog, or is of a dump that was begun anew or of a volume that was written again, or the copy
-///   could not be made. The copy ends at a reel that stays, which standard error
-///   names. What was read of it is left in the part.
+/// - A reel moves to the bin after that. It stays if its copy could not be made, if it does not begin
+///   with a label, if no mark was found after its records, or if its blocks have two lengths. It
+///   also stays if its sum differs from that in the catalog, or is of a dump that was begun anew or
+///   of a volume that was written again. The command ends at a reel that stays, and prints the
+///   reel's name. The part keeps what was read of the reel.
 ///
 /// For each reel that was copied, standard output gets the line that `rdump ls` prints for the copy,
 /// with the name of the copy in place of the path.
 ///
 /// Returns the exit status: `Success` if at least one reel was copied, and the stack has no more
-/// reels. Returns `StartupError` if the catalog could not be read or is not valid, or if the
-/// folder is none. Returns `Abnormal` otherwise.
+/// reels. Returns `StartupError` if the catalog could not be read or is not valid, or if the path
+/// is not that of a folder. Returns `Abnormal` otherwise.
 pub fn run_fetch<R: ClientSystem, T: Write + Drop>(
     rt: &R,
     line: FetchLine<'_>,

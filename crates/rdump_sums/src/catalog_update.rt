@@ -95,9 +95,9 @@ pub fn enter_line<F: WholeFile>(
     }
 }
 
-/// Adds the line of a finished dump at the end of a catalog, if `begun` lines say that the dump
-/// began, if each counted volume of the client has a line that is in force, and if the line is not
-/// in force already.
+/// Adds the line of a finished dump at the end of a catalog. It adds nothing unless the number of
+/// lines that say that the dump began is `begun`, each counted volume of the client has a line that
+/// is in force, and the line is not in force already.
 ///
 /// The faults are those of `enter_begun`.
 pub fn enter_finished<F: WholeFile, B: Blocks>(

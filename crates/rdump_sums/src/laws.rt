@@ -29,12 +29,12 @@ pub fn compared_volume<S: VolumeSink>()
         PassesOn S.takes s t calls whole }
     // The following promises hold if there is a catalog and each record of the volume has 1 to
     // 262,144 bytes. The `ComparedSink` completes an accepted volume with a label only in two
-    // cases. Either a line that is in force has the volume's label and the volume's sum: the
-    // verdict is `Equal`. Or no line that is in force has the label, and no line that follows or
-    // precedes the last line with which the dump began has the label and the sum, or no line says
-    // that the dump began: the verdict is `Unknown`. So with any other verdict `copy_volume` of
-    // `rdump_net` does not take the reel offline. If the `ComparedSink` completes an accepted
-    // volume with a label, the `ComparedSink` then has a verdict on this volume.
+    // cases. In the first case a line that is in force has the volume's label and the volume's sum,
+    // and the verdict is `Equal`. In the second case the verdict is `Unknown`: no line says that the
+    // dump began, or no line that is in force has the label and no other line has the label and the
+    // sum. So with any other verdict `copy_volume` of `rdump_net` does not take the reel offline. If
+    // the `ComparedSink` completes an accepted volume with a label, the `ComparedSink` then has a
+    // verdict on this volume.
     ensures kept { (s t : Compared S) (lines : List CatalogLine) (l : PlainLabel) (more : List (List ℕ)) → s.sums ≡ Some lines →
         IsLabel l → All IsRecord (label_record l ∷ more) → Takes (ComparedStep S.takes) s t (volume_calls l more) true →
         HasNotDiffered lines l (file_sum (volume_entries l more)) t }

@@ -15,10 +15,10 @@ abbrev pub IsOnReel : List (List ℕ) → FoundVolume → Type 0
 IsOnReel reels f = (blocks : List (List ℕ)) × IsFound reels f blocks
 
 -- a label is that of its dump
-label_is : (l : PlainLabel) (volume first : ℕ) → l.volume ≡ volume → l.first ≡ first → l ≡ volume_label (id_of l) volume first
+pub label_is : (l : PlainLabel) (volume first : ℕ) → l.volume ≡ volume → l.first ≡ first → l ≡ volume_label (id_of l) volume first
 label_is l volume first is at = rw (← is, ← at) refl
 
-same_id : (l m : PlainLabel) → AreLabelsOfOneDump l m → id_of m ≡ id_of l
+pub same_id : (l m : PlainLabel) → AreLabelsOfOneDump l m → id_of m ≡ id_of l
 same_id l m are = rw (are.0, are.1, are.2, are.3) refl
 
 linked_push : (reels : List (List ℕ)) (id : PlainId) (size volume first : ℕ) (fs : List FoundVolume) (f : FoundVolume) → AreLinked reels id size volume first fs

@@ -4,7 +4,10 @@ pub mod Chosen
 pub mod ComesBack
 pub mod Findings
 pub mod FoundMore
+pub mod Payload
 pub mod Pieces
+pub mod Spacing
 pub mod Verdicts
 pub mod Whole
 pub mod Writing
+pub mod Zeros

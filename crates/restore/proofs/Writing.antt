@@ -11,7 +11,7 @@ use Rattle.rmt_wire.proofs.Spelling.{beginning_of_first, beginning_past_first}
 use Rattle.rmt_wire.specs.ReplyWriter.{AppendsBeginning}
 
 -- the first bytes of two lists are those of the one, and then those of the other
-take_both : (n : ℕ) (xs ys : List ℕ) → take n (xs ++ ys) ≡ take n xs ++ take (n - length xs) ys
+pub take_both : (n : ℕ) (xs ys : List ℕ) → take n (xs ++ ys) ≡ take n xs ++ take (n - length xs) ys
 take_both zero xs ys = let none : zero - length xs ≡ zero = omega arith in rw none refl
 take_both (suc n) [] ys = let all : suc n - zero ≡ suc n = omega arith in rw all refl
 take_both (suc n) (x ∷ xs) ys =

@@ -60,7 +60,7 @@ impl Chain {
             IfOk result (λ _. IsChain reels self.new.volumes.items self.new.end × IsAmong reels self.new.volumes.items volume.reel) }
         ensures grown { IfOk result (λ _. (self.new.volumes.items ≡ self.old.volumes.items) ⊎ (self.new.volumes.items ≡ self.old.volumes.items ++ volume ∷ [])) }
     {
-        let Some(reel) = self.repeated(&volume) else {
+        let Some(reel) = repeated(&self.volumes, &volume) else {
             return self.add(volume);
         };
         if are_equal(shelf, reel, volume.reel, room)? {
@@ -70,19 +70,6 @@ impl Chain {
             reel,
             other: volume.reel,
         })
-    }
-
-    /// Returns the reel of the last volume, if this volume has the same number and is of the same
-    /// dump.
-    fn repeated(&self, volume: &FoundVolume) -> Option<usize>
-        ensures { IfSome result (λ reel. IsReelOf self.now.volumes.items reel) }
-    {
-        let last = self.volumes.last()?;
-        if last.label.volume() == volume.label.volume() && last.label.is_same_dump(&volume.label) {
-            Some(last.reel)
-        } else {
-            None
-        }
     }
 
     /// Adds the next volume.
@@ -125,8 +112,21 @@ impl Chain {
     }
 }
 
+/// Returns the reel of the last of these volumes, if this volume has the same number and is of the
+/// same dump.
+pub(crate) fn repeated(volumes: &[FoundVolume], volume: &FoundVolume) -> Option<usize>
+    ensures { IfSome result (λ reel. IsReelOf volumes.now reel) }
+{
+    let last = volumes.last()?;
+    if last.label.volume() == volume.label.volume() && last.label.is_same_dump(&volume.label) {
+        Some(last.reel)
+    } else {
+        None
+    }
+}
+
 /// Checks that two volumes are of the same dump, and have blocks of the same size.
-fn check_alike(volume: &FoundVolume, other: &FoundVolume) -> Result<(), Refusal>
+pub(crate) fn check_alike(volume: &FoundVolume, other: &FoundVolume) -> Result<(), Refusal>
     ensures { IfOk result (λ _. AreOfOneChain volume.now other.now) }
 {
     let (reel, next) = (volume.reel, other.reel);

@@ -1,7 +1,8 @@
 //! Puts the payload of a dump together from the reels of its volumes.
 //!
 //! `restore` checks the reels of a `Shelf`, chooses the volumes of one dump, and writes the payload
-//! to an output. `ListShelf` is a shelf in memory. The law
+//! to an output. If reels are missing, `restore_partial` writes what can be had, and returns each
+//! `Gap`, a range of missing blocks. `ListShelf` is a shelf in memory. The law
 //! `what_was_dumped_comes_back` ties what is restored to what was dumped.
 //!
 //! # Contracts
@@ -19,9 +20,13 @@
 mod chain;
 mod equal;
 mod fault;
+mod fill;
 mod found;
+mod gap;
 mod laws;
 mod list_shelf;
+mod partial;
+mod parts;
 mod restored;
 mod shelf;
 mod volume;
@@ -29,8 +34,10 @@ mod wanted;
 mod write;
 
 pub use fault::{Refusal, RestoreFault};
+pub use gap::Gap;
 pub use laws::what_was_dumped_comes_back;
 pub use list_shelf::ListShelf;
+pub use partial::restore_partial;
 pub use restored::restore;
 pub use shelf::{OpenFailed, Shelf};
 pub use wanted::Wanted;

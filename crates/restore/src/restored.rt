@@ -17,7 +17,7 @@ use std::io::Write;
 use tape::LENGTH_BYTES;
 
 /// The room for a record with its frame in a record file.
-const ROOM: usize = RECORD_LIMIT + 2 * LENGTH_BYTES as usize;
+pub(crate) const ROOM: usize = RECORD_LIMIT + 2 * LENGTH_BYTES as usize;
 
 /// Writes the payload of a dump to an output, from the reels of a shelf in any order.
 ///

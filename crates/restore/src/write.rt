@@ -61,7 +61,7 @@ pub(crate) fn write_volumes<S: Shelf, W: Write>(
 }
 
 /// Writes the blocks of a volume, up to `left` bytes. Returns how many bytes are left.
-fn write_volume<S: Shelf, W: Write>(
+pub(crate) fn write_volume<S: Shelf, W: Write>(
     shelf: &mut S,
     volume: &FoundVolume,
     left: u64,

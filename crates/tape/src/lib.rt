@@ -19,7 +19,7 @@
 //! stores its tape on a medium, the medium's bytes are a *record file*: the bytes encode the reel's
 //! entries in order. A reel's *device* is the part of the reel that can fail, for example the
 //! medium. A *trouble* is an injected fault: the next call that reaches the reel's device fails.
-//! docs/REELS.md describes reels and their record files.
+//! rmtd(8) describes reels, and rdump(5) their record files.
 #![tactic(auto)]
 
 mod entry;

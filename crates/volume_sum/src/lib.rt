@@ -11,7 +11,7 @@
 //! The *entries* of a reel are its records and marks. A *record file* is the file in which the
 //! server keeps a reel. The record file has the reel's entries in order. A record is written as its
 //! length, its bytes and its length again. A mark is written as the length 0. Each length takes 4
-//! bytes. docs/REELS.md describes record files.
+//! bytes. rdump(5) describes record files.
 //!
 //! The *sum* of entries is the SHA-256 of the record file that has these entries and nothing else.
 //! A hasher *holds* entries if the bytes that were added to the hasher are the record file of these

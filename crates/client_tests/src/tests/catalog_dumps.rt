@@ -1,5 +1,5 @@
-//! What is there of a dump of a catalog, and dates with their text in UTC, against values worked out
-//! by hand.
+//! The volumes that are missing of a dump of a catalog, and dates with their text in UTC, against
+//! values worked out by hand.
 
 use super::check_row;
 use catalog::{Catalog, SumVerdict};

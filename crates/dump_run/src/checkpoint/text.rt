@@ -55,7 +55,7 @@ fn push_lines(run: &Run, counts: &[VolumeCount], out: &mut Vec<u8>) -> Result<()
 }
 
 /// Appends the text of a checkpoint: the lines of the run, then a line for each count, in order.
-/// docs/FORMATS.md describes the format.
+/// rdump(5) describes the format.
 ///
 /// Fails if an allocation fails. Nothing is appended then.
 pub fn push_checkpoint(

@@ -214,8 +214,8 @@ fn words_of(
 fn lines_are_read_and_compared(rt: HostRuntime) -> Result<(), Fail> {
     let catalog = catalog_with(rt.alloc(), b"")?.expect(&rt, "a catalog");
     assert!(&rt; are_read(catalog.lines()));
-    let line = &catalog.lines()[0];
-    assert!(&rt; is_usr(line.id()));
+    let first = catalog.lines().first().expect(&rt, "a line");
+    assert!(&rt; is_usr(first.id()));
     let own = words_of(&catalog, 1, 0, &first_sum());
     assert!(&rt; own == Some((SumVerdict::Equal, "sum equal")));
     let other = words_of(&catalog, 2, 57690, &first_sum());

@@ -96,7 +96,7 @@ static ROWS: [Row; 14] = [
     ),
     (
         &["rdump", "cat", "r", "--level=0", "--length=5"],
-        "Ok(Cat(CatLine { paths: [\"r\"], name: None, level: Some(0), date: None, catalog: None, length: Some(5) }))",
+        "Ok(Cat(CatLine { paths: [\"r\"], name: None, level: Some(0), date: None, catalog: None, length: Some(5), is_partial: false }))",
     ),
     (
         &[
@@ -200,7 +200,7 @@ static REFUSED: [Row; 15] = [
     ),
     (
         &["rdump", "cat", "a"],
-        "error: --catalog or --length is required",
+        "error: --catalog, --length or --partial is required",
     ),
     (
         &["rdump", "cat", "a", "--catalog=c", "--length=5"],

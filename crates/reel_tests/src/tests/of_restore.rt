@@ -1,6 +1,6 @@
 //! A payload from its reels, in any order. The labels and the records were written by hand.
 
-use restore::{ListShelf, Refusal, RestoreFault, Wanted, restore};
+use restore::{Gap, ListShelf, Refusal, RestoreFault, Wanted, restore, restore_partial};
 use rmt_wire::Counted;
 use std::alloc::{AllocError, Global};
 use std::test::Fail;
@@ -68,24 +68,31 @@ static ROWS: [Row; 3] = [
     ),
 ];
 
-/// Whether a restore goes as the row says.
-fn goes(alloc: Global, row: &Row) -> Result<bool, AllocError> {
-    let (reels, end, written) = *row;
+/// The dump that is wanted, of 11 bytes.
+const WANTED: Wanted<'static> = Wanted {
+    name: Some("/usr"),
+    level: Some(0),
+    date: None,
+    length: 11,
+    volumes: None,
+    lines: None,
+};
+
+/// Returns a shelf of these reels.
+fn shelf_of(alloc: Global, reels: &[Reel]) -> Result<ListShelf, AllocError> {
     let mut list = Vec::new(alloc);
     for reel in reels {
         list.push(record_file(alloc, reel)?)?;
     }
-    let mut shelf = ListShelf::new(alloc, list);
-    let wanted = Wanted {
-        name: Some("/usr"),
-        level: Some(0),
-        date: None,
-        length: 11,
-        volumes: None,
-        lines: None,
-    };
+    Ok(ListShelf::new(alloc, list))
+}
+
+/// Whether a restore goes as the row says.
+fn goes(alloc: Global, row: &Row) -> Result<bool, AllocError> {
+    let (reels, end, written) = *row;
+    let mut shelf = shelf_of(alloc, reels)?;
     let mut bytes = Vec::new(alloc);
-    let restored = restore(alloc, &mut shelf, &wanted, &mut Counted::new(&mut bytes));
+    let restored = restore(alloc, &mut shelf, &WANTED, &mut Counted::new(&mut bytes));
     Ok(restored == end && bytes.as_slice() == written)
 }
 
@@ -95,5 +102,26 @@ fn restores_a_payload(rt: HostRuntime) -> Result<(), Fail> {
         let goes_so = goes(rt.alloc(), row)?;
         assert!(&rt; goes_so, "row {at}");
     }
+    Ok(())
+}
+
+#[test]
+fn restores_the_parts_of_a_payload(rt: HostRuntime) -> Result<(), Fail> {
+    let alloc = rt.alloc();
+    let mut shelf = shelf_of(alloc, &[THIRD, FIRST])?;
+    let mut bytes = Vec::new(alloc);
+    let mut out = Counted::new(&mut bytes);
+    let restored = restore_partial(alloc, &mut shelf, &WANTED, Some(11), &mut out);
+    let Ok(gaps) = restored else {
+        return Err(Fail::new("the reels were refused"));
+    };
+    assert!(&rt;
+        gaps.as_slice() == [Gap { first: 2, end: 3 }].as_slice(),
+        "the gaps"
+    );
+    assert!(&rt;
+        bytes.as_slice() == b"abcdef\0\0\0jk".as_slice(),
+        "the bytes"
+    );
     Ok(())
 }

@@ -10,8 +10,8 @@ returns-in_default-clause-chain g c = λ reels blocks held found chain.
 pub returns-then-branch-clause-chain : goal.returns-then-branch-clause-chain
 returns-then-branch-clause-chain g c = λ reels blocks held found chain.
     (let volumes = c.args.self.now.volumes.items in
-    let within = reel_within reels volumes c.args.self.now.end c.in-Some.reel chain c.in-Some.ensures in (
+    let of = rw c.deref.ensures.value at c.in-Some.ensures in
+    let within = reel_within reels volumes c.args.self.now.end c.in-Some.reel chain of in (
       chain,
-      among_equal reels volumes c.in-Some.reel c.args.volume.reel c.in-Some.ensures
-          (c.in_ok-are_equal.ensures.equal reels held within found.0.0 c.if-branch.true),
+      among_equal reels volumes c.in-Some.reel c.args.volume.reel of (c.in_ok-are_equal.ensures.equal reels held within found.0.0 c.if-branch.true),
     ))
