@@ -16,6 +16,8 @@ DESTDIR ?=
 SBIN = $(DESTDIR)$(PREFIX)/sbin
 BIN = $(DESTDIR)$(PREFIX)/bin
 MAN = $(DESTDIR)$(PREFIX)/share/man
+# man/night.8 describes all scripts of etc/, and is installed under the name of each.
+SCRIPTS := new-reels night take-dumpdates tapes to-shelf unattended
 DOC = $(DESTDIR)$(PREFIX)/share/doc/rdump
 
 .PHONY: help build run try quick test edits check texts bench deb install uninstall clean kit
@@ -74,10 +76,12 @@ bench: build ## long streams, reels in folders, dumps beside a floor, a long dum
 	@python3 -m bench.table $(if $(JSON),--json $(JSON))
 
 install: build ## install the programs, their manual pages and the documents under PREFIX, below DESTDIR; what `make test` has proved and built is not proved again
-	install -d $(SBIN) $(BIN) $(MAN)/man8 $(MAN)/man1 $(DOC)
+	install -d $(SBIN) $(BIN) $(MAN)/man8 $(MAN)/man5 $(MAN)/man1 $(DOC)
 	install $(SERVER) $(CLIENT) $(SBIN)
 	install $(SIMULATOR) $(BIN)
 	install -m 644 man/rmtd.8 man/rdump.8 $(MAN)/man8
+	for it in $(SCRIPTS); do install -m 644 man/night.8 $(MAN)/man8/$$it.8 || exit 1; done
+	install -m 644 man/rdump.5 $(MAN)/man5
 	install -m 644 man/rsim.1 $(MAN)/man1
 	install -m 644 docs/*.md $(DOC)
 	@found=$$(command -v rdump); test "$${found:-$(PREFIX)/sbin/rdump}" = $(PREFIX)/sbin/rdump || \
@@ -88,7 +92,8 @@ deb: build ## pack the programs as two Debian packages, out/deb/rmtd_*.deb and o
 	@python3 packaging/deb.py $(SERVER) $(CLIENT) $(SIMULATOR) out/deb
 
 uninstall: ## remove what `make install` put there, with the same PREFIX and DESTDIR; the folders stay
-	rm -f $(SBIN)/rmtd $(SBIN)/rdump $(BIN)/rsim $(MAN)/man8/rmtd.8 $(MAN)/man8/rdump.8 $(MAN)/man1/rsim.1
+	rm -f $(SBIN)/rmtd $(SBIN)/rdump $(BIN)/rsim $(MAN)/man5/rdump.5 $(MAN)/man1/rsim.1
+	rm -f $(patsubst %,$(MAN)/man8/%.8,rmtd rdump $(SCRIPTS))
 	rm -f $(patsubst docs/%,$(DOC)/%,$(wildcard docs/*.md))
 
 clean: ## remove all that was built

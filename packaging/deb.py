@@ -72,6 +72,11 @@ def documents(package: str) -> tuple[Packed, ...]:
     )
 
 
+def pages_of(*scripts: str) -> tuple[Packed, ...]:
+    """The manual page of the scripts, under the name of each."""
+    return tuple(Packed("man/night.8", f"usr/share/man/man8/{it}.8.gz") for it in scripts)
+
+
 PACKAGES = {
     "rmtd": (
         Packed("rmtd", "usr/sbin/rmtd", 0o755),
@@ -88,6 +93,7 @@ PACKAGES = {
         Packed("etc/ssh/sshd_config.d/rmtd.conf", "usr/share/doc/rmtd/examples/sshd_config.d/rmtd.conf"),
         Packed("etc/cron.d/rmtd", "usr/share/doc/rmtd/examples/cron.d/rmtd"),
         Packed("man/rmtd.8", "usr/share/man/man8/rmtd.8.gz"),
+        *pages_of("new-reels", "take-dumpdates", "tapes", "to-shelf"),
         *documents("rmtd"),
     ),
     "rdump": (
@@ -96,8 +102,10 @@ PACKAGES = {
         Packed("etc/unattended", "usr/lib/rdump/unattended", 0o755),
         Packed("etc/night", "usr/lib/rdump/night", 0o755),
         Packed("etc/cron.d/night", "usr/share/doc/rdump/examples/cron.d/night"),
+        Packed("man/rdump.5", "usr/share/man/man5/rdump.5.gz"),
         Packed("man/rdump.8", "usr/share/man/man8/rdump.8.gz"),
         Packed("man/rsim.1", "usr/share/man/man1/rsim.1.gz"),
+        *pages_of("night", "unattended"),
         *documents("rdump"),
     ),
 }

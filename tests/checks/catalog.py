@@ -399,7 +399,7 @@ class Dumps(CatalogCase):
                 self.ends(f"a catalog {name!r}", self.p.dump(it.address, f"--catalog={name}"), printed([(0, 3)]), DONE)
                 self.same(f"a catalog {name!r}: the lines", self.catalog(name), text_for(ONE_FILE))
                 got = self.p.run("ls", f"--catalog={name}", str(it.folder / "bin"))
-                self.same(f"a catalog {name!r}: ls", (got.status, got.output.endswith(": whole, sum equal\n")), (DONE, True), got)
+                self.same(f"a catalog {name!r}: ls", (got.status, got.output.endswith(": all volumes\n")), (DONE, True), got)
             self.p.file(name, b"bad\n")
             got = self.p.run("ls", f"--catalog={name}", "payload")
             self.same(f"a bad catalog {name!r}", got, Ended("", f"rdump: {shown}: it is no catalog: line 1: bad line\n", FAILED))

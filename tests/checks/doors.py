@@ -1,6 +1,6 @@
 """Checks how clients come to the built server, and how long it waits for them: addresses, Unix sockets, and `--idle`.
 
-What an address is follows from docs/RDUMP.md. What a socket file is, and who may connect to it, follows from unix(7); what a limit of a wait does,
+What an address is follows from man/rdump.8. What a socket file is, and who may connect to it, follows from unix(7); what a limit of a wait does,
 and what SIGSTOP and SIGCONT do to a call that has one, from socket(7) and signal(7). A second user takes root, the other end of a connection takes
 ss(8). What is not to be had is named as skipped. tests/checks/timeouts.py has the limit of the client's waits.
 """

@@ -62,7 +62,7 @@ class Levels(Case):
         machines.furnish()
         os.chdir(machines.HOME)
         *before, recipe = with_those_before(found["Restore"], found)
-        at = next(number for number, block in enumerate(recipe.blocks) if any("for level in" in it.text for it in block))
+        at = next(number for number, block in enumerate(recipe.blocks) if any("for date in" in it.text for it in block))
         status, printed = ran(script_of([*before, recipe._replace(blocks=recipe.blocks[:at])]))
         self.same("the dumps are made", status, DONE, printed[-600:])
         restore = "\n".join(it.text for it in recipe.blocks[at])

@@ -8,6 +8,7 @@ from __future__ import annotations
 
 from tests.lib.ended import ABNORMAL, DONE, FAILED, Ended
 from tests.lib.fetches import CANNOT, NO_MARK, FetchCase, fetched, stays
+from tests.lib.listings import dump_words
 from tests.lib.played_servers import Model
 from tests.lib.restores import BACK, NO_REPLY, OVER, USR, fetch_words, loaded, reel
 from tests.lib.wire import CLOSE, DEVICE, REWIND
@@ -46,7 +47,7 @@ class Marks(FetchCase):
 
     def test_another_error_than_EIO(self) -> None:
         """A space back over a record that is refused with another error than EIO says nothing of the reel: both say so, and close the drive."""
-        label = f"{DEVICE}: {USR.name} level {USR.level} date {USR.date} since {USR.since} volume 1 first 0, 2 blocks of 1024 bytes"
+        label = f"{DEVICE}: {dump_words(*USR[:4])} volume 1 first 0, 2 blocks of 1024 bytes"
         for number, text in ERRORS.items():
             for without_mark in (False, True):
                 reply = b"E%d\n%s\n" % (number, text)

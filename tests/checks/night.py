@@ -38,7 +38,7 @@ from tests.lib.inside import is_inside, run_inside
 from tests.lib.places import TOP, built
 from tests.lib.played_servers import Said
 from tests.lib.processes import state
-from tests.lib.recipes import all_recipes, script_of, with_those_before
+from tests.lib.recipes import OPERATING, all_recipes, script_of, with_those_before
 from tests.lib.servers import serving
 from tests.lib.traced import traced
 from tests.lib.unattended import NEW_REELS, NIGHT, UNATTENDED, Job, jobs_of, moved_clock, set_clock
@@ -252,8 +252,8 @@ class Unattended(ScriptCase):
         self.same("each failure of docs/MESSAGES.md is tried", [it for it in answers if it not in tried], [])
         refused = [it for it, to_do in answers.items() if "answer no" in to_do]
         self.same("what an operator answers with no is given up", [it for it in refused if not tried.get(it)], [])
-        part = TOP.joinpath("docs/OPERATING.md").read_text().partition("**If waiting cannot help")[2].partition("counts in the same way")[0]
-        listed = {name for line in re.findall(r"(?m)^- (.*?):", part) for name in re.findall("`([^`]+)`", line)}
+        part = OPERATING.read_text().partition("**If waiting cannot help**")[2].partition("\n\n")[0]
+        listed = {" ".join(it.split()) for it in re.findall("`([^`]+)`", part)}
         self.same("docs/OPERATING.md lists what is given up", listed, {it for it, is_hopeless in tried.items() if is_hopeless})
 
     def test_signals(self) -> None:

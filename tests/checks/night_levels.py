@@ -27,7 +27,8 @@ from tests.lib.cats import cat_with
 from tests.lib.connections import NOWHERE, text_of
 from tests.lib.ended import DONE, Ended
 from tests.lib.given import given
-from tests.lib.places import TOP, built
+from tests.lib.places import built
+from tests.lib.recipes import MORE, OPERATING
 from tests.lib.servers import Server, serving
 from tests.lib.unattended import NIGHT, set_clock
 from tests.lib.waiting import GUARD_SECONDS
@@ -38,7 +39,6 @@ UNPACKS = "tar -x --listed-incremental=/dev/null --one-file-system --xattrs --xa
 OLD = (1000000000, 1000000000)
 SECOND = 0.02
 TREES = 5
-OPERATING = TOP / "docs/OPERATING.md"
 # The status of restore(8) where files differ, as their flags do on another kind of file system.
 MODIFIED = 2
 # Files whose last bytes are a hole.
@@ -304,11 +304,11 @@ class Levels(TreeCase):
             run(self.folder, "umount", str(mount), str(back / "mounted"))
 
     def test_documents(self) -> None:
-        """docs/OPERATING.md unpacks as these tests do."""
-        text = OPERATING.read_text()
-        unpacks = re.findall(r'tar -x.* -f "?(?:back\.|tree\.back).* -C back\b', text)
-        self.holds("it unpacks payloads", len(unpacks) >= 2, unpacks)
-        self.same("with these words", [it for it in unpacks if not it.startswith(UNPACKS)], [])
+        """The recipes unpack as these tests do."""
+        for document in (OPERATING, MORE):
+            unpacks = re.findall(r"tar -x .* -C back\b", document.read_text())
+            self.holds(f"{document.name} unpacks payloads", len(unpacks) >= 1, unpacks)
+            self.same(f"{document.name}: with these words", [it for it in unpacks if not it.startswith(UNPACKS)], [])
 
 
 class Changes:

@@ -73,7 +73,11 @@ FILES = {
         644 usr/share/doc/rmtd/copyright
         644 usr/share/doc/rmtd/examples/cron.d/rmtd
         644 usr/share/doc/rmtd/examples/sshd_config.d/rmtd.conf
+        644 usr/share/man/man8/new-reels.8.gz
         644 usr/share/man/man8/rmtd.8.gz
+        644 usr/share/man/man8/take-dumpdates.8.gz
+        644 usr/share/man/man8/tapes.8.gz
+        644 usr/share/man/man8/to-shelf.8.gz
     """,
     "rdump": """\
         755 usr/bin/rsim
@@ -86,7 +90,10 @@ FILES = {
         644 usr/share/doc/rdump/copyright
         644 usr/share/doc/rdump/examples/cron.d/night
         644 usr/share/man/man1/rsim.1.gz
+        644 usr/share/man/man5/rdump.5.gz
+        644 usr/share/man/man8/night.8.gz
         644 usr/share/man/man8/rdump.8.gz
+        644 usr/share/man/man8/unattended.8.gz
     """,
 }
 # What dpkg reads of each package, but for the lines that both have.

@@ -1,10 +1,11 @@
 """Runs the recipes of docs/TUTORIAL.md and docs/OPERATING.md as they are written there, and compares what they print with what is written
 there. It runs those of tests/checks/more_recipes.md too, which are for tests alone.
 
-A section of a document with commands is a recipe. A block `sh` is commands of which each has to succeed; in a block `console` a line
-after `$ ` is a command, and the lines below it are all that it prints. The line `After *TITLE*` names the recipe that is done before, and
-`Needs` names programs. A recipe whose programs are not on this machine is named as skipped. The test of a recipe has its title, with `_` for
-each space: `python3 -m tests recipes -k A_server_that_is_killed` runs one recipe.
+A section of a document with commands is a recipe. In docs/OPERATING.md the headings of the second and the third level begin sections, in the
+others those of the second. A block `sh` is commands of which each has to succeed; in a block `console` a line after `$ ` is a command, and the
+lines below it are all that it prints. The line `After *TITLE*` names the recipe that is done before, and `Needs` names programs. A recipe whose
+programs are not on this machine is named as skipped. The test of a recipe has its title, with `_` for each space: `python3 -m tests recipes -k
+A_server_that_is_killed` runs one recipe.
 
 A section of README.md is a recipe too. A user who is not root runs *A server that is killed*, in a home of their own, with a pause of a second
 after each block, as a person takes it; and pastes it whole into a shell, 20 times in a row.
@@ -16,8 +17,8 @@ make(1). Where they are not to be had, all recipes are named as skipped.
 On the machine of a recipe that needs apt(8), nothing is installed. The packages that packaging/deb.py makes of the programs lie in out/deb, as
 `make deb` leaves them, and /usr and /var are overlays. Where they are not to be had, the recipe is named as skipped.
 
-Each message of docs/MESSAGES.md that `rdump` prints, or `rmtd` at its start, is in a block `console` of one of these with its status, or below
-with the reason why it is not.
+Each message of docs/MESSAGES.md and of tests/lib/self_evident.txt that `rdump` prints, or `rmtd` at its start, is in a block `console` of one
+of these with its status, or below with the reason why it is not.
 """
 
 from __future__ import annotations
@@ -33,11 +34,10 @@ from typing import Iterator, NamedTuple
 from tests.lib.at_once import AtOnce, SlowCase, each
 from tests.lib.case import Case
 from tests.lib.machines import UNSHARE, has_machines, is_there, make
-from tests.lib.places import TOP, words_of_module
+from tests.lib.messages import page_tables, self_evident
+from tests.lib.places import words_of_module
 from tests.lib.recipe_machine import PASTED
-from tests.lib.recipes import SIGN, USED, Command, Recipe, all_recipes, sections, with_those_before
-
-MESSAGES = TOP / "docs/MESSAGES.md"
+from tests.lib.recipes import SIGN, USED, Command, Recipe, all_recipes, with_those_before
 
 # A recipe that takes longer is killed, so that the checks end.
 RECIPE_SECONDS = 900
@@ -54,6 +54,8 @@ FOREIGN = "rdump: ADDRESS: the first reel of DEVICE is not a volume of rdump:"
 # The messages that no recipe shows, each with the reason.
 UNSHOWN = {
     "error: invalid value for '--idle <SECONDS>': a number is 0 to 9223372036854775807 in digits": "tests/checks/doors.py shows it",
+    "rdump: --partial: no block is missing": "tests/checks/cat_partial.py shows it",
+    "rdump: blocks N to N are missing: zero bytes are in their place": "tests/checks/cat_partial.py shows it",
     "rmtd: unix:FILE: another process has the lock of its folder": "tests/checks/doors.py shows it",
     "rmtd: unix:FILE: path must be shorter than SUN_LEN": "tests/checks/doors.py shows it",
     (
@@ -118,6 +120,7 @@ UNSHOWN = {
     "rdump: FILE: another dump of this name, level and dates began: nothing more is entered": "tests/checks/catalog.py shows it",
     "rdump: FILE: another file took its place while it was opened": "it takes an exchange between two calls of the system",
     "rdump: FILE: another run writes it": "tests/checks/restore.py shows it: it takes a server that does not answer",
+    "rdump: FILE: it changed while it was dumped: ..": "tests/checks/new_files.py shows it: the payload has to change",
     "rdump: FILE: it changed while it was dumped: it had N bytes, and has N": "tests/checks/new_files.py shows it: the payload has to change",
     "rdump: FILE: it changed while it was dumped: it was written to": "tests/checks/new_files.py shows it: the payload has to change",
     "rdump: FILE: it could not be read": "tests/checks/ls.py shows it: it takes a disk that fails while the file is read",
@@ -299,11 +302,31 @@ class Uninstall(Case):
         self.same("make uninstall removes what make install put there, and nothing else", left, [of_another])
 
 
-# The page of messages.
+# The messages.
 
 
-# The sections of messages whose statuses are compared, each with its program.
-SECTIONS = {"rmtd at its start": "rmtd", "rdump": "rdump"}
+# The sections of messages that are compared.
+SECTIONS = ("rmtd at its start", "rdump")
+# The exit statuses of the messages of the page that a program ends with.
+STATUSES = {
+    "catalog not complete": ("3",),
+    "checkpoint is of another dump": ("1",),
+    "checkpoint not written": ("3",),
+    "dumpdates not updated": ("3",),
+    "line N: bad line": ("1",),
+    "rdump: ADDRESS: .. refused with E6: ..": ("3", "1"),
+    "rdump: ADDRESS: the connection ended": ("3", "1"),
+    "rdump: ADDRESS: timed out": ("3", "1"),
+    "rdump: FILE and FILE have the same volume, with different bytes: leave out one of them": ("3",),
+    "rdump: FILE: it could not be removed: REASON": ("3",),
+    "rdump: FILE: it does not begin at block N, where the volume before it ends": ("3",),
+    "rdump: FILE: it was changed or could not be read again: the payload is not whole": ("3",),
+    "rdump: FILE: the dump is not finished": ("3",),
+    "rdump: standard output could not be written": ("1", "3"),
+    "rdump: without a catalog: two payloads of one name, level and dates look alike": ("0",),
+    "rmtd: unix:FILE: Address already in use": ("1",),
+    "rmtd: unix:FILE: another process has the lock of its folder": ("1",),
+}
 # What varies in a message, and what is printed in its place.
 VARIES = {
     "..": ".*",
@@ -319,7 +342,7 @@ VARIES = {
 
 
 class Row(NamedTuple):
-    """A row of a table of messages: the program, the message, the pattern of its lines, and its statuses, None for any."""
+    """A message: its program, its text, the pattern of its lines, and its statuses, None for any."""
 
     program: str
     message: str
@@ -335,13 +358,10 @@ def pattern_of(message: str) -> re.Pattern[str]:
 
 
 def rows() -> Iterator[Row]:
-    """The rows of the tables of these sections."""
-    for title, _, lines in sections(MESSAGES.read_text()):
-        for line in lines if title in SECTIONS else ():
-            found = re.match(r"\| `([^`]+)` \| ([^|]+) \|", line)
-            if found:
-                statuses = tuple(re.findall(r"\d", found[2]))
-                yield Row(SECTIONS[title], found[1], pattern_of(found[1]), statuses or (None,))
+    """The messages of these sections, of the page and of the list."""
+    for it in (it for table in (*page_tables(), *self_evident()) for it in table):
+        if it.section in SECTIONS:
+            yield Row(it.program, it.text, pattern_of(it.text), it.statuses or STATUSES.get(it.text) or (None,))
 
 
 def is_of(command: Command, program: str) -> bool:
@@ -364,7 +384,7 @@ class Messages(Case):
 
     def test_messages_are_shown(self) -> None:
         commands = [it for recipe in RECIPES.values() for it in recipe.commands()]
-        self.same("the page has messages of both programs", {it.program for it in rows()}, {"rmtd", "rdump"})
+        self.same("there are messages of both programs", {it.program for it in rows()}, {"rmtd", "rdump"})
         for it in rows():
             for status in it.statuses:
                 shown = any(it.pattern.search(text) for text in printed_with(commands, it.program, status))
@@ -372,10 +392,10 @@ class Messages(Case):
                 name = f"{it.program} prints `{it.message}`, status {status or 'any'}"
                 self.same(f"{name}: a recipe shows it, or it is named as not shown", shown, not is_named)
 
-    def test_what_is_not_shown_is_on_the_page(self) -> None:
+    def test_what_is_not_shown_is_a_message(self) -> None:
         messages = {it.message for it in rows()}
-        for it in UNSHOWN:
-            self.holds("what is not shown is on the page", it.partition(", status ")[0] in messages, it)
+        for it in (*UNSHOWN, *STATUSES):
+            self.holds("what is not shown, or has a status, is a message", it.partition(", status ")[0] in messages, it)
 
 
 def load_tests(loader: unittest.TestLoader, tests: unittest.TestSuite, pattern: str | None) -> unittest.TestSuite:

@@ -1,7 +1,7 @@
 """Plays a server to the built `rdump dump` over the loopback: replies that come a byte at a time, that are followed by a byte more, or cut off by a
 close or a reset after each number of their bytes, and bytes that are no reply.
 
-What is wanted is the table of docs/DUMP.md, by hand: before the count each of these fails the attempt, and after it nothing does. What a reel shows
+What is wanted are the lists of docs/WORLD.md, by hand: before the count each of these fails the attempt, and after it nothing does. What a reel shows
 to the look goes on, unless it is the label of a volume that is counted.
 """
 

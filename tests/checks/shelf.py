@@ -21,7 +21,8 @@ from tests.checks.night import Mail
 from tests.lib.case import Case
 from tests.lib.ended import DONE
 from tests.lib.listings import Label, dump_words, utc
-from tests.lib.places import TOP, built
+from tests.lib.places import built
+from tests.lib.recipes import MORE
 from tests.lib.unattended import TO_SHELF, moved_clock, set_clock
 from tests.lib.waiting import GUARD_SECONDS
 from tests.models.found import Dump as DumpId
@@ -553,12 +554,11 @@ class WhatCame(ShelfCase):
 
 
 class ReelsOfOneDump(ShelfCase):
-    """How docs/OPERATING.md restores the last dump of a level from a shelf of many."""
+    """How the recipe *A night by hand* restores the last dump of a level from a shelf of many."""
 
     def test_reels(self) -> None:
         """Those of another name, level or date stay, and those that are not whole, whatever the bytes of the names are."""
-        text = TOP.joinpath("docs/OPERATING.md").read_text()
-        (commands,) = re.findall(r"(?m)^date=.*\nrdump cat .* /srv/tape/shelf/\*-%2Fusr(?= > tree.back)", text)
+        (commands,) = re.findall(r"(?m)^date=.*\nrdump cat .* /srv/tape/shelf/\*-%2Fusr(?= > tree.back)", MORE.read_text())
         commands = commands.replace("/srv/tape/shelf", str(self.shelf)).replace("/srv/tape/clients", str(self.clients))
         last = [Dump(when, 5, level, FIRST if level else None, name) for name in NAMES for level, when in enumerate((NEW, LATER))]
         dumps = [*last, *(it._replace(when=OLD) for it in last)]

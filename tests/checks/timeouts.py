@@ -1,7 +1,7 @@
 """Checks how long the built client waits, `--timeout`: for a connection, for a reply, and for a peer that takes no bytes.
 
 What a limit of a wait does, and what SIGSTOP and SIGCONT do to a call that has one, follows from socket(7) and signal(7); how a command ends that
-has waited for too long, from docs/RDUMP.md. A wait to send over TCP takes root and ip(8). What is not to be had is named as skipped.
+has waited for too long, from man/rdump.8. A wait to send over TCP takes root and ip(8). What is not to be had is named as skipped.
 tests/checks/doors.py has the limit of the server's waits.
 """
 

@@ -7,8 +7,11 @@ from typing import Iterator, NamedTuple
 
 from tests.lib.places import TOP
 
-DOCUMENTS = (TOP / "docs/TUTORIAL.md", TOP / "docs/OPERATING.md", TOP / "tests/checks/more_recipes.md")
-README = TOP / "README.md"
+# What begins a heading of a section: in OPERATING.md those of its parts, and those below them.
+HEADING = "## "
+README, TUTORIAL, OPERATING = TOP / "README.md", TOP / "docs/TUTORIAL.md", TOP / "docs/OPERATING.md"
+MORE = TOP / "tests/checks/more_recipes.md"
+DOCUMENTS = {README: HEADING, TUTORIAL: HEADING, OPERATING: "## |### ", MORE: HEADING}
 
 # The recipe of the README, which a user runs who is not root.
 USED = "A server that is killed"
@@ -30,8 +33,15 @@ $ find /usr/local ! -type d ! -path '*/share/doc/*' -printf '%m %u %g %P\\n' | s
 755 root root sbin/rdump
 755 root root sbin/rmtd
 644 root root share/man/man1/rsim.1
+644 root root share/man/man5/rdump.5
+644 root root share/man/man8/new-reels.8
+644 root root share/man/man8/night.8
 644 root root share/man/man8/rdump.8
 644 root root share/man/man8/rmtd.8
+644 root root share/man/man8/take-dumpdates.8
+644 root root share/man/man8/tapes.8
+644 root root share/man/man8/to-shelf.8
+644 root root share/man/man8/unattended.8
 $ find /usr/local/share/doc -name MESSAGES.md -printf '%m %u %g %P\\n'
 644 root root rdump/MESSAGES.md
 $ find /usr/local -type d ! -perm 755
@@ -51,10 +61,14 @@ Usage: rsim <FILE>
 Needs `man`.
 
 ```console
-$ man -w rmtd rdump rsim
+$ man -w rmtd rdump rsim night to-shelf 5 rdump
 /usr/local/share/man/man8/rmtd.8
 /usr/local/share/man/man8/rdump.8
 /usr/local/share/man/man1/rsim.1
+/usr/local/share/man/man8/night.8
+/usr/local/share/man/man8/to-shelf.8
+/usr/local/share/man/man5/rdump.5
+$ find /usr/local/share/man -type f -exec man --warnings -l {} + 2>&1 > /dev/null
 ```
 
 ## tar 1.34 of a user who is not root
@@ -89,12 +103,12 @@ class Recipe(NamedTuple):
         return (it for block in self.blocks for it in block)
 
 
-def sections(text: str) -> Iterator[tuple[str, int, list[str]]]:
-    """The title of each section, the number of the line below it, and its lines."""
+def sections(text: str, heading: str = HEADING) -> Iterator[tuple[str, int, list[str]]]:
+    """The title of each section, the number of the line below it, and its lines. `heading` is a pattern of what begins a heading."""
     lines = text.splitlines()
-    starts = [number for number, line in enumerate(lines) if line.startswith("## ")]
+    starts = [number for number, line in enumerate(lines) if re.match(heading, line)]
     for start, end in zip(starts, [*starts[1:], len(lines)]):
-        yield lines[start][3:], start + 2, lines[start + 1 : end]
+        yield lines[start].lstrip("# "), start + 2, lines[start + 1 : end]
 
 
 def blocks(lines: list[str], first: int) -> Iterator[tuple[str, int, list[str]]]:
@@ -144,18 +158,18 @@ def recipe_of(title: str, first: int, lines: list[str]) -> Recipe:
     return Recipe(title, after[1] if after else None, tuple(re.findall("`([^`]+)`", needs[1])) if needs else (), tuple(found))
 
 
-def recipes_of(text: str) -> dict[str, Recipe]:
-    """The sections that have commands, by their titles."""
-    found = [recipe_of(*it) for it in sections(text)]
-    return {it.title: it for it in found if it.blocks}
+def recipes_of(text: str, heading: str = HEADING) -> list[Recipe]:
+    """The sections that have commands."""
+    found = [recipe_of(*it) for it in sections(text, heading)]
+    return [it for it in found if it.blocks]
 
 
 def all_recipes() -> dict[str, Recipe]:
-    """The README's recipe, those that are in no document, and those of the documents."""
-    found = {USED: recipes_of(README.read_text())[USED]} | recipes_of(UNWRITTEN)
-    for it in DOCUMENTS:
-        found |= recipes_of(it.read_text())
-    return found
+    """The recipes of the documents, and those that are in none, by their titles."""
+    found = [*recipes_of(UNWRITTEN), *(it for document, heading in DOCUMENTS.items() for it in recipes_of(document.read_text(), heading))]
+    by_title = {it.title: it for it in found}
+    assert len(by_title) == len(found), "two recipes have the same title"
+    return by_title
 
 
 def with_those_before(recipe: Recipe, recipes: dict[str, Recipe]) -> list[Recipe]:

@@ -1,15 +1,17 @@
-"""Compares docs/MESSAGES.md with the texts of the programs, both ways.
+"""Compares docs/MESSAGES.md, and the list of messages that it has no row for, with the texts of the programs, both ways.
 
     python3 -m tests.tools.messages
 
-A text of the source is a string in the crates of a program that has two words or more. Each is on the page, in the section of its program,
-as a part of a message. A message of the page is the first cell of a row of a table. Each consists of texts of the source alone.
+A text of the source is a string in the crates of a program that has two words or more. Each is a part of a message of the page or of the
+list, in a section of its program. A message of the page is the first cell of a row of a table of messages. The list is
+tests/lib/self_evident.txt: it has the messages that say themselves what is wrong and what to do, and those that a row of the page abbreviates
+by `..`. Each message consists of texts of the source alone, or abbreviates one of the list.
 
-Some parts of a text vary. In the source such a part is `{..}`. On the page it is `..`, a number, or a word in capitals that the page
-explains, as FILE. What lies between two such parts, without the punctuation around it, is a piece. Pieces are what is compared.
+Some parts of a text vary. In the source such a part is `{..}`. In a message it is `..`, a number, or a word in capitals, as FILE. What lies
+between two such parts, without the punctuation around it, is a piece. Pieces are what is compared.
 
-The messages of each table are in alphabetical order, and none of a program is there twice. Most texts that refuse wrong arguments are left out,
-since they name what is wrong.
+The messages of each table, and of each section of the list, are in alphabetical order, and no section has one twice. Most texts that refuse
+wrong arguments are left out, since they name what is wrong.
 """
 
 from __future__ import annotations
@@ -18,9 +20,8 @@ import re
 import sys
 from typing import Iterator, NamedTuple
 
-from tests.lib.places import CRATES, TOP
-
-PAGE = TOP / "docs/MESSAGES.md"
+from tests.lib.messages import Message, page_tables, self_evident
+from tests.lib.places import CRATES
 
 # The crates in which each program's texts are.
 PROGRAMS = {
@@ -47,15 +48,6 @@ PROGRAMS = {
 }
 # Crates whose faults each program may print. The page need not have them.
 LIBRARIES = ("rmt_wire", "dump_client", "dump_run", "dumpdates", "rmtd_args", "rdump_args")
-# The sections of the page, each with its program.
-SECTIONS = {
-    "rmtd at its start": "rmtd",
-    "The log of rmtd": "rmtd",
-    "rdump": "rdump",
-    "The errors of a server": "rdump",
-    "The lines of rdump ls": "rdump",
-    "rsim": "rsim",
-}
 # Texts that no program prints: what is read from other files, the forms of dumpdates and of a checkpoint, the help of `rsim`, and a fault
 # in whose place the system's reason is printed.
 NOT_PRINTED = (
@@ -88,15 +80,16 @@ PUNCTUATION = " \n\r.,:;()/'\""
 
 
 class Text(NamedTuple):
-    """A string of the source, or a message of the page, and where it is."""
+    """A string of the source, and where it is."""
 
     place: str
     text: str
 
-    def pieces(self) -> list[str]:
-        """What lies between the parts that vary, without the punctuation around it."""
-        found = (it.strip(PUNCTUATION) for it in VARIES.split(self.text))
-        return [it for it in found if re.search("[A-Za-z]", it)]
+
+def pieces(text: str) -> list[str]:
+    """What lies between the parts that vary of a string or a message, without the punctuation around it."""
+    found = (it.strip(PUNCTUATION) for it in VARIES.split(text))
+    return [it for it in found if re.search("[A-Za-z]", it)]
 
 
 def strings(crates: tuple[str, ...]) -> Iterator[Text]:
@@ -111,62 +104,60 @@ def strings(crates: tuple[str, ...]) -> Iterator[Text]:
 
 
 def is_printed(it: Text) -> bool:
-    """Whether the page has to have a string."""
+    """Whether a message has to have a string."""
     words = re.findall(r"[A-Za-z][\w'-]*", re.sub(r"\{[^}]*\}|/\S*", " ", it.text))
     whole_file = it.place.rpartition(":")[0] in ALL_PRINTED and words
     return it.text not in NOT_PRINTED and bool(whole_file or len(words) > 1)
 
 
-def tables(text: str) -> Iterator[tuple[str, list[Text]]]:
-    """The program of each table of messages, and its messages."""
-    program, messages = None, []
-    for number, line in enumerate(text.splitlines(), 1):
-        if line.startswith("## "):
-            program = SECTIONS.get(line[3:])
-        message = re.match(r"\| `([^`]+)` \|", line)
-        if message and program:
-            messages.append(Text(f"docs/MESSAGES.md:{number}", message[1]))
-        elif messages and program:
-            yield program, messages
-            messages = []
-
-
-def check_strings(program: str, messages: list[Text]) -> Iterator[str]:
-    """Each string that is on no message of the page."""
-    pages = [" .. ".join(it.pieces()) for it in messages]
+def check_strings(program: str, messages: list[Message]) -> Iterator[str]:
+    """Each string that is in no message."""
+    known = [" .. ".join(pieces(it.text)) for it in messages]
     for it in strings(PROGRAMS[program]):
-        wanted = re.compile(".*".join(map(re.escape, it.pieces())))
-        if is_printed(it) and not any(wanted.search(page) for page in pages):
-            yield f"crates/{it.place}: docs/MESSAGES.md has no such message of {program}: {it.text.strip()}"
+        wanted = re.compile(".*".join(map(re.escape, pieces(it.text))))
+        if is_printed(it) and not any(wanted.search(message) for message in known):
+            yield f"crates/{it.place}: docs/MESSAGES.md and self_evident.txt have no such message of {program}: {it.text.strip()}"
 
 
-def check_messages(program: str, messages: list[Text]) -> Iterator[str]:
-    """Each message of the page that has a piece of no string."""
-    known = {piece for it in strings(PROGRAMS[program] + LIBRARIES) for piece in it.pieces()} | set(FROM_THE_KIT)
+def check_messages(program: str, messages: list[Message], listed: list[Message]) -> Iterator[str]:
+    """Each message that has a piece of no string, but for those that abbreviate one of the list."""
+    known = {piece for it in strings(PROGRAMS[program] + LIBRARIES) for piece in pieces(it.text)} | set(FROM_THE_KIT)
     one = "|".join(map(re.escape, sorted(known, key=len, reverse=True)))
     several = re.compile(f"(?:{one})(?:[ ,:;/()]+(?:{one}))*")
     for it in messages:
-        for piece in it.pieces():
-            if not several.fullmatch(piece):
-                yield f"{it.place}: no text of {program} is so: {piece}"
+        if not any(it.covers(other.text) for other in listed):
+            for piece in pieces(it.text):
+                if not several.fullmatch(piece):
+                    yield f"{it.place}: no text of {program} is so: {piece}"
 
 
-def check_order(table: list[Text]) -> Iterator[str]:
+def check_order(table: list[Message]) -> Iterator[str]:
     """Each message that belongs before the one above it, or is the same."""
     for above, it in zip(table, table[1:]):
         if above.text.casefold() >= it.text.casefold():
             yield f"{it.place}: this belongs above `{above.text}`, or is the same: {it.text}"
 
 
+def check_twice(rows: list[Message], listed: list[Message]) -> Iterator[str]:
+    """Each message of the list that the page has too."""
+    there = {(it.section, it.text) for it in rows}
+    for it in listed:
+        if (it.section, it.text) in there:
+            yield f"{it.place}: docs/MESSAGES.md has this message too: {it.text}"
+
+
 def main() -> int:
-    found = list(tables(PAGE.read_text() + "\n"))
-    wrong = [line for _, table in found for line in check_order(table)]
+    tables, lists = list(page_tables()), list(self_evident())
+    rows, listed = [it for table in tables for it in table], [it for section in lists for it in section]
+    wrong = [line for table in (*tables, *lists) for line in check_order(table)]
+    wrong += check_twice(rows, listed)
     for program in PROGRAMS:
-        messages = [it for owner, table in found if owner == program for it in table]
-        wrong += [*check_strings(program, messages), *check_messages(program, messages)]
+        own = [it for it in listed if it.program == program]
+        messages = [it for it in (*rows, *listed) if it.program == program]
+        wrong += [*check_strings(program, messages), *check_messages(program, messages, own)]
     for line in wrong:
         print(line)
-    print(f"{sum(len(table) for _, table in found)} messages, {len(wrong)} faults")
+    print(f"{len(rows)} messages of docs/MESSAGES.md, {len(listed)} of self_evident.txt, {len(wrong)} faults")
     return 1 if wrong else 0
 
 

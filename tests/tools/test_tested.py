@@ -24,7 +24,7 @@ ROWS = """| Call | A wrong body | Rejected by |
 class Tested(Case):
     """A repository of two crates of tests and a file of checks."""
 
-    def found(self, text: str, name: str = "TESTED.md") -> list[str]:
+    def found(self, text: str, name: str = "PROMISES.md") -> list[str]:
         tested.names_of.cache_clear()
         tested.all_names.cache_clear()
         with tempfile.TemporaryDirectory() as folder:
@@ -46,6 +46,9 @@ class Tested(Case):
             self.same(cell, self.found(ROWS.format(cell)), [])
         self.same("a call in another column", self.found(ROWS.format("no test").replace("`open`", "`Session::open`")), [])
         self.same("an item", self.found("- Reels.\n  - Tests: `reads_a_line`;\n    `whole`\n- `nothing` else\n"), [])
+        self.same("a table of tests", self.found(ROWS.replace("Rejected by", "Tests").format("`half`")), ["there is no test half"])
+        self.same("the tables", self.found(ROWS.format("`half`"), "ONLY_TESTED_TABLES.md"), ["there is no test half"])
+        self.same("another document", self.found(ROWS.format("`half`"), "README.md"), [])
         self.same("any crate", self.found("`crates/CRATE/further/NAME.edit` and `tests/checks/`", "README.md"), [])
 
     def test_missing(self) -> None:

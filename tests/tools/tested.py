@@ -2,9 +2,9 @@
 
     python3 -m tests.tools.tested
 
-TESTED says of each wrong body which test rejects it, and of each thing that is only tested by which tests. A test that gets another name, or that is
-split in two, leaves its old name there. What a test shows is left to whoever reads it: only its name is looked for, and where TESTED says that it is.
-Paths are looked for in all documents. It fails where a name or a path leads nowhere.
+ONLY_TESTED_TABLES names for each wrong body the tests that reject it, and PROMISES names for each question the tests of what is only tested. If a
+test gets another name, or is split in two, its old name is left there. Only the name is looked for, in the place where the document says that it is:
+no tool knows what a test shows. Paths are looked for in all documents. It fails if a name or a path leads nowhere.
 """
 
 from __future__ import annotations
@@ -21,8 +21,9 @@ TOP = Path(__file__).resolve().parents[2]
 WORD = re.compile(r"`([^`]+)`")
 PATH = re.compile(r"`((?:bench|crates|docs|etc|man|packaging|tests)/[\w./-]*\w/?)`(?: \(([^()]*)\))?")
 PLACED = re.compile(r"`(\w+)` in ((?:`\w+_tests`(?:, | and )?)+)")
-# What TESTED says of tests: the last cell of a row below the heading `Rejected by`, and the list after `Tests:` up to the next item.
-TABLE = re.compile(r"^\|(?:[^\n]*\|)? Rejected by \|\n\|[-| ]+\|\n((?:\|.*\n)+)", re.M)
+# The documents that name tests: in the last cell of a row below the heading `Rejected by` or `Tests`, and in a list after `Tests:`.
+NAMING_TESTS = ("ONLY_TESTED_TABLES.md", "PROMISES.md")
+TABLE = re.compile(r"^\|(?:[^\n]*\|)? (?:Rejected by|Tests) \|\n\|[-| ]+\|\n((?:\|.*\n)+)", re.M)
 LIST = re.compile(r"\bTests: (.*?)(?=\n\s*(?:- |\||\n)|\Z)", re.S)
 
 
@@ -72,7 +73,7 @@ def tests_in(text: str) -> Iterator[str]:
 
 
 def said_of_tests(text: str) -> Iterator[str]:
-    """The parts of TESTED that name tests."""
+    """The parts of a document that name tests."""
     for rows in TABLE.findall(text):
         yield from (it.rstrip("|").rpartition(" | ")[2] for it in rows.splitlines())
     yield from LIST.findall(text)
@@ -81,7 +82,7 @@ def said_of_tests(text: str) -> Iterator[str]:
 def faults(name: str, text: str) -> Iterator[str]:
     """What a document names that is not there."""
     yield from paths_in(text)
-    if name == "TESTED.md":
+    if name in NAMING_TESTS:
         for part in said_of_tests(text):
             yield from tests_in(part)
 
