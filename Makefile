@@ -17,7 +17,7 @@ SBIN = $(DESTDIR)$(PREFIX)/sbin
 BIN = $(DESTDIR)$(PREFIX)/bin
 MAN = $(DESTDIR)$(PREFIX)/share/man
 # man/night.8 describes all scripts of etc/, and is installed under the name of each.
-SCRIPTS := new-reels night take-dumpdates tapes to-shelf unattended
+SCRIPTS := new-reels night take-dumpdates tapes to-shelf
 DOC = $(DESTDIR)$(PREFIX)/share/doc/rdump
 
 .PHONY: help build run try quick test edits check texts bench deb install uninstall clean kit

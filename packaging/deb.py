@@ -99,13 +99,12 @@ PACKAGES = {
     "rdump": (
         Packed("rdump", "usr/sbin/rdump", 0o755),
         Packed("rsim", "usr/bin/rsim", 0o755),
-        Packed("etc/unattended", "usr/lib/rdump/unattended", 0o755),
         Packed("etc/night", "usr/lib/rdump/night", 0o755),
         Packed("etc/cron.d/night", "usr/share/doc/rdump/examples/cron.d/night"),
         Packed("man/rdump.5", "usr/share/man/man5/rdump.5.gz"),
         Packed("man/rdump.8", "usr/share/man/man8/rdump.8.gz"),
         Packed("man/rsim.1", "usr/share/man/man1/rsim.1.gz"),
-        *pages_of("night", "unattended"),
+        *pages_of("night"),
         *documents("rdump"),
     ),
 }

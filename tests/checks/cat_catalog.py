@@ -10,7 +10,7 @@ import random
 import re
 import tempfile
 from pathlib import Path
-from typing import Mapping
+from typing import Mapping, Sequence
 
 from tests.lib.case import random_seed
 from tests.lib.cats import ReelFolder, cat_with
@@ -56,6 +56,15 @@ A_CATALOG = b"".join(A_LINES)
 
 def told(*lines: str) -> bytes:
     return "".join(f"rdump: {it}\n" for it in lines).encode()
+
+
+def known_twice(first: str, second: str) -> Ended[bytes]:
+    """What comes if the catalogs of these names have lines of the dump."""
+    return Ended(b"", told(f"{first} and {second} have lines of one dump, {dump_words(*USR)}: leave out one of them"), FAILED)
+
+
+def twice(first: int, second: int) -> Ended[bytes]:
+    return known_twice(f"c{first}", f"c{second}")
 
 
 def last_length(text: bytes) -> int:
@@ -355,3 +364,135 @@ class Catalogs(CatalogCase):
         text = begun_line(USR, 0) + volume_line(reel) + finished_line(USR, 1, 0, 4, 0)
         self.same("its line", said(reel).is_whole(), True)
         self.comes_back("an empty payload", b"", text, "none")
+
+
+class Several(CatalogCase):
+    """Several catalogs: only one of them may have lines of the dump."""
+
+    def setUp(self) -> None:
+        super().setUp()
+        self.lay({f"r{number}": it for number, it in enumerate(A_REELS, 1)})
+
+    def of_all(self, texts: Sequence[bytes], *words: str) -> Ended[bytes]:
+        """What came of the command with catalogs of these texts, which have the names c0, c1, .."""
+        names = [f"c{number}" for number in range(len(texts))]
+        self.lay(dict(zip(names, texts)))
+        return cat_with(*(it for name in names for it in ("--catalog", name)), *words, folder=self.folder)
+
+    def come(self, name: str, texts: Sequence[bytes], came: Ended[bytes], *words: str) -> None:
+        self.same(name, self.of_all(texts, *words), came)
+
+    def test_a_dump_in_each(self) -> None:
+        """Each of two catalogs has a dump, and each dump comes back, in both orders, also beside catalogs without a line."""
+        other = Dump("/home", 1, DAY + 1, DAY)
+        reel = images([Label(*other, 1, 0).record(), b"else", None])
+        text = begun_line(other, 3) + volume_line(reel) + finished_line(other, 1, 1, 4, 3)
+        self.lay({"other": reel})
+        for title, texts in (("first", [A_CATALOG, text]), ("last", [text, A_CATALOG]), ("among others", [b"", A_CATALOG, b"", text, b""])):
+            self.come(f"{title}: A", texts, Ended(A, b"", DONE), "--fs", "/usr", "r1", "r2", "r3", "other")
+            self.come(f"{title}: the other one", texts, Ended(b"els", b"", DONE), "--fs", "/home", "r1", "r2", "r3", "other")
+            why = told(TWO_DUMPS, dump_words(*USR), dump_words(*other))
+            self.come(f"{title}: both are wanted", texts, Ended(b"", why, FAILED), "r1", "r2", "r3", "other")
+            self.come(f"{title}: a reel is missing", texts, Ended(b"", told(missing(2)), ABNORMAL), "--fs", "/usr", "r1", "r3")
+
+    def test_one_is_none(self) -> None:
+        """What is no catalog is named, with the number of its own first bad line, and nothing is written. So is a file that is not there."""
+        cut = A_CATALOG[:-1]
+        for title, texts, number, line in (
+            ("the first", [cut, b"".join(B_LINES)], 0, 5),
+            ("the second", [A_CATALOG, A_CATALOG + b"\n"], 1, 6),
+            ("the third", [A_CATALOG, b"", b"x"], 2, 1),
+            ("two of them", [A_CATALOG, b"\n", b"\n"], 1, 1),
+        ):
+            why = told(f"c{number}: it is no catalog: line {line}: bad line")
+            self.come(title, texts, Ended(b"", why, FAILED), "r1", "r2", "r3")
+        for place in range(1, len(A_CATALOG)):
+            if A_CATALOG[:place].endswith(b"\n"):
+                continue
+            line = A_CATALOG[:place].count(b"\n") + 1
+            why = told(f"c0: it is no catalog: line {line}: bad line")
+            self.come(f"cut at byte {place}", [A_CATALOG[:place], A_CATALOG[place:]], Ended(b"", why, FAILED), "r1", "r2", "r3")
+        self.lay({"c": A_CATALOG})
+        for words in (("c", "none"), ("none", "c")):
+            got = cat_with(*(it for name in words for it in ("--catalog", name)), "r1", "r2", "r3", folder=self.folder)
+            is_told = got.told.startswith(b"rdump: none: No such file") and got.told.count(b"\n") == 1
+            self.same(f"{words}", (got.output, got.status, is_told), (b"", FAILED, True), got)
+
+    def test_two_have_it(self) -> None:
+        """Two catalogs with a line of the dump are refused, in each order, whatever the lines are. The first two are named."""
+        words = ("r1", "r2", "r3")
+        for count in range(1, len(A_LINES)):
+            one, two = b"".join(A_LINES[:count]), b"".join(A_LINES[count:])
+            self.come(f"{count} lines first", [one, two], twice(0, 1), *words)
+            self.come(f"{count} lines last", [two, one], twice(0, 1), *words)
+        for number, line in enumerate(A_LINES):
+            self.come(f"line {number} and all", [line, A_CATALOG], twice(0, 1), *words)
+            self.come(f"all and line {number}", [A_CATALOG, line], twice(0, 1), *words)
+        self.come("the same lines", [A_CATALOG, A_CATALOG], twice(0, 1), *words)
+        self.come("another payload", [A_CATALOG, b"".join(B_LINES)], twice(0, 1), *words)
+        self.come("the second and the last of four", [b"", A_CATALOG, b"", A_CATALOG], twice(1, 3), *words)
+        self.come("all of three", [A_CATALOG, A_CATALOG, A_CATALOG], twice(0, 1), *words)
+        self.come("a reel is missing", [A_CATALOG, A_CATALOG], twice(0, 1), "r1", "r3")
+        for first, last in (("a\n", "b"), ("b", "a\n")):
+            self.lay({first: A_CATALOG, last: A_CATALOG})
+            got = cat_with("--catalog", first, "--catalog", last, *words, folder=self.folder)
+            self.same(f"{first!r} and {last!r}", got, known_twice(first.replace("\n", "?"), last.replace("\n", "?")))
+
+    def test_the_same_file_twice(self) -> None:
+        """A catalog that is given twice is refused if it has the dump."""
+        for text, came in ((A_CATALOG, known_twice("c", "c")), (b"", Ended(b"", told(NO_DUMP, NO_DUMP), ABNORMAL))):
+            self.same(f"{len(text)} bytes", self.cat(text, "--catalog", "c", "r1", "r2", "r3"), came)
+
+    def test_one_has_it(self) -> None:
+        """A catalog that alone has lines of the dump is taken as if no other were given. If none has any, each is named."""
+        other = USR._replace(since=1)
+        beside = A_CATALOG.replace(USR.text().encode(), other.text().encode())
+        words = ("r1", "r2", "r3")
+        for title, text, why in (
+            ("a finished dump", A_CATALOG, ""),
+            ("not finished", b"".join(A_LINES[:-1]), "the dump is not finished"),
+            ("not begun", b"".join(A_LINES[1:]), "it has no such dump"),
+        ):
+            for place in range(3):
+                texts = [b"", beside]
+                texts.insert(place, text)
+                came = Ended(b"", told(f"c{place}: {why}"), ABNORMAL) if why else Ended(A, b"", DONE)
+                self.come(f"{title}, in catalog {place}", texts, came, *words)
+        none = told(*(f"c{number}: it has no such dump" for number in range(3)))
+        self.come("in none", [b"", beside, b""], Ended(b"", none, ABNORMAL), *words)
+
+    def test_random_files(self) -> None:
+        """The lines of two dumps in random order, in some files: what comes is what the model says of the one file that has lines of the dump."""
+        first = random_seed(95)
+        came = set()
+        reels = {f"all/{number}": it for number, it in enumerate((*A_REELS, *B_REELS, *C_REELS))}
+        self.lay(reels)
+        other = Dump("/home", 0, DAY, 0)
+        others = [it.replace(USR.text().encode(), other.text().encode()) for it in A_LINES]
+        for seed in range(first, first + CATALOGS // 2):
+            source = random.Random(seed)
+            texts = []
+            for _ in range(source.randrange(1, 4)):
+                ones = source.choice((A_LINES, B_LINES, C_LINES, others, others, others))
+                texts.append(b"".join(ones[source.choice((0, 0, 0, 1)) : source.choice((len(ones), len(ones), source.randrange(len(ones) + 1)))]))
+            having = [number for number, it in enumerate(texts) if USR.text().encode() in it]
+            got = self.of_all(texts, "all")
+            if len(having) > 1:
+                self.same(f"files {seed}", got, twice(*having[:2]))
+            else:
+                payload, status = wanted_of(reels, b"".join(texts[number] for number in having))
+                self.same(f"files {seed}", (got.output, got.status), (payload, status), got, texts)
+            came.add((got.output, got.status))
+        self.holds("each came", {(b"", ABNORMAL), (b"", FAILED)} < came, came)
+
+    def test_parts(self) -> None:
+        """With --partial too, one catalog is taken, and two with lines of the dump are refused. With a length, none may be given."""
+        words = ("--partial", "r1", "r3")
+        for title, texts in (("first", [A_CATALOG, b""]), ("last", [b"", A_CATALOG])):
+            got = self.of_all(texts, *words)
+            self.same(title, (got.output, got.status), (A[:8] + bytes(12) + A[20:], ABNORMAL), got)
+        self.come("in both", [A_CATALOG, A_LINES[0]], twice(0, 1), *words)
+        self.come("in none", [b"", b""], Ended(b"", told("c0: it has no such dump", "c1: it has no such dump"), ABNORMAL), *words)
+        self.same("the same file", self.cat(A_CATALOG, "--catalog", "c", *words), known_twice("c", "c"))
+        got = self.of_all([A_CATALOG, b""], "--length", str(len(A)), "r1", "r2", "r3")
+        self.same("a length too", (got.output, got.status, b"--catalog or --length is given" in got.told), (b"", FAILED, True), got)

@@ -1,7 +1,7 @@
 """Checks the scripts of etc/ that dump with nobody there, with the built programs.
 
-`unattended` runs stand-ins for a dump, which print and wait as it does, and dumps to servers of this file. `new-reels` runs in folders, and
-`night` in a folder beside a server, and without the variables that a crontab sets. tests/checks/shelf.py has what `to-shelf` does.
+`new-reels` runs in folders, and `night` in a folder beside a server, and without the variables that a crontab sets. tests/checks/shelf.py has what
+`to-shelf` does.
 
 The recipe *A night* of docs/OPERATING.md runs as it stands there, on a machine of its own, and then the lines of its two crontabs, at the
 times that they name. No cron runs: this file reads them, and moves the clock, which is a `date` that comes first in PATH. What a line prints
@@ -22,56 +22,29 @@ import subprocess
 import tempfile
 import time
 from calendar import timegm
-from contextlib import suppress
+from contextlib import contextmanager, suppress
 from pathlib import Path
-from typing import Callable, NamedTuple
+from typing import Callable, Iterator, NamedTuple
 
 from tests.lib import machines
-from tests.lib.case import Case, random_seed
+from tests.lib.case import Case
 from tests.lib.cats import cat_with
 from tests.lib.checkpoints import small_disk
 from tests.lib.connections import NOWHERE, text_of, wait_for
-from tests.lib.dumping import DAY, IN_LITTLE_ROOM, PAYLOAD, label
+from tests.lib.dumping import IN_LITTLE_ROOM
 from tests.lib.ended import ABNORMAL, DONE, Ended
 from tests.lib.given import given
 from tests.lib.inside import is_inside, run_inside
-from tests.lib.places import TOP, built
-from tests.lib.played_servers import Said
-from tests.lib.processes import state
-from tests.lib.recipes import OPERATING, all_recipes, script_of, with_those_before
+from tests.lib.nights import NEW_REELS, NIGHT, Job, jobs_of, moved_clock, set_clock
+from tests.lib.places import built
+from tests.lib.processes import children, guarded, state
+from tests.lib.recipes import all_recipes, script_of, with_those_before
 from tests.lib.servers import serving
 from tests.lib.traced import traced
-from tests.lib.unattended import NEW_REELS, NIGHT, UNATTENDED, Job, jobs_of, moved_clock, set_clock
-from tests.lib.waiting import GUARD_SECONDS, soon
+from tests.lib.waiting import GUARD_SECONDS
 from tests.lib.wire import DEVICE
 
-SIGNALS = 60
 DATE_OF_A_LABEL = 951782400
-
-# Stand-ins for a dump.
-WORDS = "#!/bin/sh\nprintf '%s\\n' \"$@\"\n"
-# What a dump prints on both streams, and the last line of standard error without its end.
-BOTH = r"""#!/bin/sh
-echo 'going on: 2 volumes, 6 blocks of 8 counted' >&2
-echo 'volume 3: 2 blocks from 6'
-printf 'a \\ b  \t%%s\n\n' >&2
-echo 'dump complete: 3 volumes, 8 blocks'
-printf 'no end' >&2
-"""
-# It asks until it is answered with anything but `yes`, with a line on standard error before; the number of its answers is its status.
-ASKS = r"""#!/bin/sh
-answers=0
-while :; do
-    test -z "$SAID" || printf '%s\n' "$SAID" >&2
-    test -z "$FAILED" || printf '%s\n' "$FAILED"
-    echo 'retry?'
-    read -r answer && test "$answer" = yes || break
-    answers=$((answers + 1))
-done
-exit $answers
-"""
-# Two pipes: a writer that has not closed the first yet is none of the second.
-WAITS = "#!/bin/sh\necho out\nread -r answer < first\necho told >&2\nread -r answer < second\n"
 
 
 def run(folder: Path, *words: str, **variables: str) -> Ended[str]:
@@ -94,281 +67,6 @@ class ScriptCase(Case):
 
     def setUp(self) -> None:
         self.folder = Path(self.enterContext(tempfile.TemporaryDirectory()))
-
-    def stand_in(self, text: str) -> str:
-        """Makes a program of this text, and answers its path."""
-        path = self.folder / "rdump"
-        path.write_text(text)
-        path.chmod(0o755)
-        return str(path)
-
-
-# What no wait mends: the line on standard output, that on standard error, and whether it is such a one.
-LOOK = "rdump: 127.0.0.1:4711: the look failed: open: Refused {}: the words for E{}"
-PROTECTED = (
-    "rdump: 127.0.0.1:4711: protected: the first reel of /dev/st0 {}; "
-    "take it away (rdump mt --to 127.0.0.1:4711 --device /dev/st0 offline 1) or lay another reel first, then answer yes"
-)
-REASONS = (
-    ("volume 1 failed: Refused 2", "", True),
-    ("volume 12 failed: Refused 22", "", True),
-    ("volume 1 failed: Refused 9", "", True),
-    ("volume 1 failed: Refused 13", "", True),
-    ("volume 1 failed: Botched", "", True),
-    ("volume 1 failed: ShortWrite", "", True),
-    ("volume 1 failed: SourceFault", "", True),
-    ("volume 1 failed: ReelTooSmall", "", True),
-    ("volume 12 failed: CountedReel 3", "rdump: 127.0.0.1:4711: CountedReel 3: the first reel of the stack of /dev/st0 begins with ..", True),
-    ("", LOOK.format(2, 2), True),
-    ("", LOOK.format(9, 9), True),
-    ("", LOOK.format(13, 13), True),
-    ("", LOOK.format(22, 22), True),
-    ("", "rdump: 127.0.0.1:4711: the look failed: no reply by the protocol", True),
-    ("", PROTECTED.format("has a volume of another dump: /usr level 0 date 951782400, volume 1"), True),
-    ("", PROTECTED.format("begins with a record that is no label"), True),
-    ("", PROTECTED.format("begins with a mark"), True),
-    ("volume 1 failed: Refused 5", "", False),
-    ("volume 1 failed: Refused 6", "", False),
-    ("volume 1 failed: Refused 12", "", False),
-    ("volume 1 failed: Refused 16", "", False),
-    ("volume 1 failed: Refused 28", "", False),
-    ("volume 1 failed: Refused 130", "", False),
-    ("volume 1 failed: OutOfMemory", "", False),
-    ("volume 1 failed: ConnectionEnded", "rdump: 127.0.0.1:4711: Connection refused (os error 111)", False),
-    ("", LOOK.format(6, 6), False),
-    ("", LOOK.format(12, 12), False),
-    ("", LOOK.format(16, 16), False),
-    ("", "rdump: 127.0.0.1:4711: the look failed: out of memory", False),
-    ("", "rdump: 127.0.0.1:4711: the look failed: the connection ended", False),
-    ("", "rdump: 127.0.0.1:4711: the look failed: Connection refused (os error 111)", False),
-    ("", "this reel has: /home level 0 Fri Nov 20 00:00:00 2026, volume 1", False),
-)
-
-
-def failure_of(line: str) -> str:
-    """The failure that a line names, without the number of a counted volume."""
-    return re.sub(r"^(CountedReel) \w+$", r"\1", line.partition(" failed: ")[2])
-
-
-class Unattended(ScriptCase):
-    """The script that answers, with stand-ins for a dump."""
-
-    def test_numbers(self) -> None:
-        """Which numbers are some. A 0 before other digits changes nothing."""
-        asks = self.stand_in(ASKS)
-        for value, answers in (("3", 3), ("03", 3), ("000", 0), ("08", 8)):
-            got = run(self.folder, UNATTENDED, asks, PAUSE="00", TIMES=value)
-            self.same(f"TIMES={value}", got, Ended("retry?\n" * (answers + 1), "", answers))
-        self.same("PAUSE=08 is a number", run(self.folder, UNATTENDED, asks, PAUSE="08", TIMES="0"), Ended("retry?\n", "", DONE))
-        for value in ("x", "1x", "0x", "-1", "1.5", "0" * 30 + "x", "9" * 19):
-            for name in ("PAUSE", "TIMES", "TIMEOUT"):
-                got = run(self.folder, UNATTENDED, asks, **{name: value})
-                self.same(f"{name}={value}", got, Ended("", f"unattended: not a number: {value}\n", 1))
-
-    def test_pause(self) -> None:
-        asks = self.stand_in(ASKS)
-        began = time.monotonic()
-        got = run(self.folder, UNATTENDED, asks, PAUSE="02", TIMES="01")
-        self.same("PAUSE=02 is two seconds", (got.status, time.monotonic() - began >= 2), (1, True), got)
-
-    def test_streams(self) -> None:
-        """What is printed is passed on, each stream to its own."""
-        got = run(self.folder, UNATTENDED, self.stand_in(BOTH))
-        told = "going on: 2 volumes, 6 blocks of 8 counted\na \\ b  \t%s\n\nno end"
-        self.same("both streams", got, Ended("volume 3: 2 blocks from 6\ndump complete: 3 volumes, 8 blocks\n", told, DONE))
-
-    def test_order_of_both_streams(self) -> None:
-        """What stood on standard error before a line comes before it."""
-        asks = self.stand_in(ASKS)
-        reason, failed = "rdump: 127.0.0.1:1: Connection refused (os error 111)", "volume 1 failed: ConnectionEnded"
-        variables = {**os.environ, "SAID": reason, "FAILED": failed, "PAUSE": "0", "TIMES": "3"}
-        for _ in range(20):
-            ran = subprocess.run(
-                (UNATTENDED, asks),
-                env=variables,
-                stdin=subprocess.DEVNULL,
-                stdout=subprocess.PIPE,
-                stderr=subprocess.STDOUT,
-                timeout=GUARD_SECONDS,
-                check=False,
-            )
-            self.same("the order of both streams", ran.stdout.decode(), f"{reason}\n{failed}\nretry?\n" * 4, ran.returncode)
-
-    def test_lines_are_shown_at_once(self) -> None:
-        """A line of either stream is passed on while the dump goes on."""
-        waits = self.stand_in(WAITS)
-        for it in ("first", "second"):
-            os.mkfifo(self.folder / it)
-        with subprocess.Popen(
-            (UNATTENDED, waits), cwd=self.folder, stdin=subprocess.DEVNULL, stdout=subprocess.PIPE, stderr=subprocess.PIPE
-        ) as process:
-            self.same("a line of standard output", given(process.stdout).readline(), b"out\n")
-            (self.folder / "first").write_text("\n")
-            self.same("a line of standard error", given(process.stderr).readline(), b"told\n")
-            (self.folder / "second").write_text("\n")
-            self.same("its end", process.wait(GUARD_SECONDS), DONE)
-
-    def test_words_of_a_dump(self) -> None:
-        """A dump gets --protect and --timeout once, and nothing else does."""
-        program = self.stand_in(WORDS)
-        hour = ["--timeout", "3600"]
-        rows: tuple[tuple[tuple[str, ...], list[str], dict[str, str]], ...] = (
-            (("dump", "--to", "a b"), ["--protect", *hour], {}),
-            (("dump", "--protect", "--to", "x"), hour, {}),
-            (("dump", "--timeout", "5", "--to", "x"), ["--protect"], {"TIMEOUT": "7"}),
-            (("dump", "--timeout=0", "--to", "x"), ["--protect"], {}),
-            (("dump", "--to", "x"), ["--protect", "--timeout", "7"], {"TIMEOUT": "007"}),
-            (("dump", "--to", "x"), ["--protect"], {"TIMEOUT": "0"}),
-            (("dump", "--to", "x"), ["--protect", *hour], {"TIMEOUT": ""}),
-            (("read", "--to", "x"), [], {}),
-            (("--version",), [], {"TIMEOUT": "7"}),
-        )
-        for words, more, seconds in rows:
-            got = run(self.folder, UNATTENDED, program, *words, **seconds)
-            self.same(f"the words of {words} {seconds}", got, Ended("".join(f"{it}\n" for it in (*words, *more)), "", DONE))
-        got = run(self.folder, UNATTENDED, "nice", program, "dump")
-        self.same("a dump that another program starts", got.output, "dump\n--protect\n--timeout\n3600\n", got)
-
-    def test_what_no_wait_mends(self) -> None:
-        """It gets no answer. With --checkpoint the dump is ended by a signal, and the status is 3."""
-        asks = self.stand_in(ASKS)
-        for failed, said, is_hopeless in REASONS:
-            lines = f"{failed}\nretry?\n" if failed else "retry?\n"
-            told = f"{said}\n" if said else ""
-            times = 1 if is_hopeless else 3
-            got = run(self.folder, UNATTENDED, asks, "dump", SAID=said, FAILED=failed, PAUSE="0", TIMES="2")
-            self.same(f"{failed or said}: its answers", got, Ended(lines * times, told * times, times - 1))
-            for word in (("--checkpoint", "kept"), ("--checkpoint=kept",)):
-                got = run(self.folder, UNATTENDED, asks, "dump", *word, SAID=said, FAILED=failed, PAUSE="0", TIMES="2")
-                gave_up = got.told.removeprefix(told * times).startswith("unattended: it gave up, and the file of --checkpoint stays")
-                self.same(f"{failed or said}, {word}", (got.output, got.status, gave_up), (lines * times, ABNORMAL, True), got)
-
-    def test_documents(self) -> None:
-        """The documents agree with the script about the failures that no wait mends, and each failure of docs/MESSAGES.md is tried above."""
-        tried = {failure_of(failed): is_hopeless for failed, _, is_hopeless in REASONS if failed}
-        rows = re.findall(r"(?m)^\| `(volume N failed: [^`]+)` \|.*\| ([^|]*) \|$", TOP.joinpath("docs/MESSAGES.md").read_text())
-        answers = {failure_of(message): to_do for message, to_do in rows}
-        self.holds("docs/MESSAGES.md has failures", len(answers) > 10, rows)
-        self.same("each failure of docs/MESSAGES.md is tried", [it for it in answers if it not in tried], [])
-        refused = [it for it, to_do in answers.items() if "answer no" in to_do]
-        self.same("what an operator answers with no is given up", [it for it in refused if not tried.get(it)], [])
-        part = OPERATING.read_text().partition("**If waiting cannot help**")[2].partition("\n\n")[0]
-        listed = {" ".join(it.split()) for it in re.findall("`([^`]+)`", part)}
-        self.same("docs/OPERATING.md lists what is given up", listed, {it for it, is_hopeless in tried.items() if is_hopeless})
-
-    def test_signals(self) -> None:
-        """A signal at any time ends the script and its dump, and nothing stays."""
-        asks, seed = self.stand_in(ASKS), random_seed(7)
-        generator = random.Random(seed)
-        temporary = self.folder / "temporary"
-        temporary.mkdir()
-        variables = {**os.environ, "PAUSE": "1000", "SAID": "why", "TMPDIR": str(temporary)}
-        for number in range(SIGNALS):
-            sent = generator.choice((signal.SIGHUP, signal.SIGINT, signal.SIGTERM))
-            with subprocess.Popen(
-                (UNATTENDED, asks, "dump"),
-                cwd=self.folder,
-                env=variables,
-                stdin=subprocess.DEVNULL,
-                stdout=subprocess.DEVNULL,
-                stderr=subprocess.DEVNULL,
-                start_new_session=True,
-                preexec_fn=heeds_signals,
-            ) as process:
-                time.sleep(generator.random() * 0.1)
-                process.send_signal(sent)
-                status = process.wait(GUARD_SECONDS)
-            # A signal before the first trap ends the shell itself.
-            self.holds(f"signal {number}, {sent}: its status", status != DONE, status, seed)
-            left = [it for it in group(process.pid) if not is_over(it)]
-            self.same(f"signal {number}, {sent}: no process is left", left, [], seed)
-
-
-def heeds_signals() -> None:
-    """A shell can set no trap for a signal that was ignored when it began, as SIGINT is for what runs in the background."""
-    for it in (signal.SIGHUP, signal.SIGINT, signal.SIGTERM):
-        signal.signal(it, signal.SIG_DFL)
-
-
-def group(leader: int) -> list[int]:
-    """The processes of a session."""
-    found = []
-    for it in Path("/proc").glob("[0-9]*/stat"):
-        try:
-            fields = it.read_text().rpartition(")")[2].split()
-        except OSError:
-            continue
-        if int(fields[3]) == leader and fields[0] != "Z":
-            found.append(int(it.parent.name))
-    return found
-
-
-def is_over(process: int) -> bool:
-    """Whether a process ends, which may take a while."""
-    return soon(lambda: not Path(f"/proc/{process}").exists() or is_zombie(process))
-
-
-class UnattendedDumps(ScriptCase):
-    """The script that answers, with dumps to servers of this file."""
-
-    def setUp(self) -> None:
-        super().setUp()
-        self.folder.joinpath("payload").write_bytes(PAYLOAD)
-        # Whether the client knows --protect by itself.
-        self.has_protect = "--protect" in run(self.folder, built("rdump"), "dump", "--help").output
-
-    def dump(self, address: str, *more: str, **variables: str) -> Ended[str]:
-        words = ("--to", address, "--device", DEVICE, "--fs", "/usr", "--level", "0", "--date", str(DAY), "--payload", "payload", "--block", "1024")
-        return run(self.folder, UNATTENDED, built("rdump"), "dump", *words, "--dumpdates", "dumpdates", *more, **variables)
-
-    def test_what_no_wait_mends(self) -> None:
-        """Each to a server that answers so: one attempt, and what becomes of the checkpoint."""
-        opened = (b"A0\n", b"A1\n", b"A0\n", b"A1\n")
-        # With --protect there is a look of its own before each attempt: an open, a rewind, a read, a rewind, spacing and a close.
-        look = (b"A0\n", b"A1\n", b"A0\n", b"A1\n", b"E5\nempty\n", b"A0\n") if self.has_protect else ()
-        # A volume of one block, as the reel is then full, and the label of it on the next reel.
-        volume = (*opened, b"A1024\n", b"A1024\n", b"A0\n", b"A1\n", b"A1\n", b"A0\n")
-        counted = b"A1024\n" + label(1, 0)
-        look_at_counted = (b"A0\n", b"A1\n", counted, b"A0\n") if self.has_protect else ()
-        # The look at a drive that is not there holds the attempt back, and no line of a volume is printed then.
-        for title, replies, line in (
-            ("no such drive", (b"E2\nno\n",), "" if look else "volume 1 failed: Refused 2\n"),
-            ("an older server", (*look, *opened, b"A1024\n", b"E22\nno\n"), "volume 1 failed: Refused 22\n"),
-            ("a server that lets nobody open", (b"E13\nno\n",), "" if look else "volume 1 failed: Refused 13\n"),
-            ("a server that cannot rewind", (b"A0\n", b"E9\nno\n", b"A0\n"), "" if look else "volume 1 failed: Refused 9\n"),
-            ("a server that lets nobody write", (*look, *opened, b"E13\nno\n"), "volume 1 failed: Refused 13\n"),
-            ("a server that takes no writes", (*look, *opened, b"E9\nno\n"), "volume 1 failed: Refused 9\n"),
-            ("a server that writes less", (*look, *opened, b"A1023\n"), "volume 1 failed: ShortWrite\n"),
-            ("no server of this protocol", (*look, b"X\n"), "volume 1 failed: Botched\n"),
-            ("a reel that is too small", (*look, *opened, b"A0\n"), "volume 1 failed: ReelTooSmall\n"),
-            (
-                "a counted reel",
-                (*look, *volume, *look_at_counted, b"A0\n", b"A1\n", counted),
-                "volume 1: 1 blocks from 0\nvolume 2 failed: CountedReel 1\n",
-            ),
-        ):
-            for more in ((), ("--checkpoint", "kept")):
-                self.fails_at_once(f"{title} {more}", replies, line, *more)
-
-    def fails_at_once(self, title: str, replies: tuple[bytes, ...], line: str, *more: str) -> None:
-        """A dump to a server that gives these replies makes one attempt."""
-        with Said(*replies) as server:
-            got = self.dump(server.address, *more, PAUSE="1000")
-        end = "" if more else "dump abandoned\n"
-        self.same(title, (got.output, got.status), (f"{line}retry?\n{end}", ABNORMAL), got)
-        kept = self.folder / "kept"
-        if line:
-            self.same(f"{title}: the checkpoint", kept.exists(), bool(more))
-        kept.unlink(missing_ok=True)
-
-    def test_a_silent_server(self) -> None:
-        """It costs an attempt, and the next one is made. The system accepts the connections."""
-        with socket.create_server(("127.0.0.1", 0)) as listener:
-            address = "127.0.0.1:%d" % listener.getsockname()[1]
-            got = self.dump(address, PAUSE="0", TIMES="1", TIMEOUT="1")
-        failed, why = ("", "the look failed: timed out") if self.has_protect else ("volume 1 failed: ConnectionEnded\n", "timed out")
-        wanted = Ended(f"{failed}retry?\n" * 2 + "dump abandoned\n", f"rdump: {address}: {why}\n" * 2, ABNORMAL)
-        self.same("a silent server", got, wanted)
 
 
 class NightByHand(ScriptCase):
@@ -475,15 +173,19 @@ class NightCase(ScriptCase):
         self.programs, self.tree, self.place = (self.folder / it for it in ("programs", "tree", "place"))
         moved_clock(self.programs, self.folder / "now", "2026-11-29 02:00")
         (self.programs / "rdump").symlink_to(built("rdump"))
-        (self.programs / "unattended").symlink_to(UNATTENDED)
         self.tree.mkdir()
         (self.tree / "file").write_bytes(random.Random(5).randbytes(LONG))
         self.place.mkdir(0o700)
 
     def dumps(self, to: str, level: int = 0, before: tuple[str, ...] = ()) -> Ended[str]:
-        """What comes of the script at a level. It answers no question."""
-        words = (*before, NIGHT, str(level), "/usr", str(self.tree), str(self.place))
-        return run(self.folder, *words, TO=to, DEVICE=DEVICE, PATH=f"{self.programs}:{os.environ['PATH']}", TIMES="0")
+        """What comes of the script at a level. A volume that fails is tried a second time at once."""
+        return run(self.folder, *before, *self.words(level), **self.variables(to), TIMES="1", PAUSE="0")
+
+    def words(self, level: int) -> tuple[str, ...]:
+        return (NIGHT, str(level), "/usr", str(self.tree), str(self.place))
+
+    def variables(self, to: str) -> dict[str, str]:
+        return {"TO": to, "DEVICE": DEVICE, "PATH": f"{self.programs}:{os.environ['PATH']}"}
 
     def left(self) -> list[str]:
         """What a run left that is large, or that the next one goes on from."""
@@ -548,14 +250,53 @@ class NightScript(NightCase):
             self.holds("the second fails", second.endswith(ended.format(1, monday, 3) + again(1)), got)
 
     def test_mail_of_a_killed_dump(self) -> None:
-        """Its last line has the status, and the name of the signal."""
-        (self.programs / "rdump").unlink()
-        (self.programs / "rdump").symlink_to(self.folder / "rdump")
+        """Its last lines have the status, the name of the signal, and what completes the dump."""
+        sunday = timegm((2026, 11, 29, 2, 0, 0))
         for name, status in (("KILL", 137), ("TERM", 143)):
-            set_clock(self.folder / "now", f"2026-11-29 02:{status - 100}")
-            self.stand_in(f'#!/bin/sh\ntest "$1" != dump || kill -{name} $$\nexec {built("rdump")} "$@"\n')
-            got = self.dumps(NOWHERE)
-            self.same(name, (got.status, got.told.endswith(f" ended with status {status} (signal {name})\n")), (status, True), got)
+            with self.waiting() as night:
+                (dump,) = children(night.pid)
+                os.kill(dump, getattr(signal, f"SIG{name}"))
+                told = night.communicate()[1].decode()
+            end = f"night: /usr level 0 date {sunday} ended with status {status} (signal {name})\n{AGAIN.format(1)}"
+            self.same(name, (night.returncode, told.endswith(end), self.left()), (status, True, ["checkpoint", "payload"]), told)
+        with serving() as server:
+            server.reel("r1")
+            server.reel("r2")
+            set_clock(self.folder / "now", "2026-11-30 02:00")
+            got = self.dumps(text_of(server.address), 1)
+            self.same("it is completed", (got.status, got.output.count("dump complete: "), self.left()), (DONE, 2, []), got)
+
+    @contextmanager
+    def waiting(self) -> Iterator[subprocess.Popen[bytes]]:
+        """A night whose dump waits before it tries again. There is no server."""
+        environment = {**os.environ, **self.variables(NOWHERE)}
+        with guarded(
+            subprocess.Popen(self.words(0), env=environment, stdin=subprocess.DEVNULL, stdout=subprocess.PIPE, stderr=subprocess.PIPE)
+        ) as night:
+            self.holds("it waits a minute", any(it == b"rdump: it is tried again in 60 seconds\n" for it in given(night.stderr)))
+            yield night
+
+    def test_variables(self) -> None:
+        """What the dump gets from the variables, and what it gets if they are not set, or are empty. A number that is none is refused."""
+        (self.programs / "rdump").unlink()
+        (self.programs / "rdump").write_text('#!/bin/sh\necho "$@"\n')
+        (self.programs / "rdump").chmod(0o755)
+        rows: tuple[tuple[dict[str, str], str], ...] = (
+            ({}, "--protect --timeout 3600 --retry 60 --pause 60"),
+            ({"TIMES": "", "PAUSE": "", "TIMEOUT": ""}, "--protect --timeout 3600 --retry 60 --pause 60"),
+            ({"TIMES": "7", "PAUSE": "8", "TIMEOUT": "0"}, "--protect --timeout 0 --retry 7 --pause 8"),
+        )
+        for number, (variables, wanted) in enumerate(rows):
+            set_clock(self.folder / "now", f"2026-11-29 02:{number:02}")
+            got = run(self.folder, *self.words(0), **self.variables(NOWHERE), **variables)
+            self.holds(f"{variables}", got.output.endswith(f" {wanted}\n"), got)
+        (self.programs / "rdump").unlink()
+        (self.programs / "rdump").symlink_to(built("rdump"))
+        for number, name in enumerate(("TIMES", "PAUSE", "TIMEOUT"), 10):
+            set_clock(self.folder / "now", f"2026-11-29 02:{number}")
+            got = run(self.folder, *self.words(0), **self.variables(NOWHERE), **{name: "x"})
+            found = (got.status, got.output, "error: invalid value for '--" in got.told, "checkpoint" in self.left())
+            self.same(f"{name}=x", found, (1, "", True, False), got)
 
     def test_unfinished_dump_of_another_folder(self) -> None:
         """A dump that fails names the unfinished dumps of the folders beside this one, and nothing else that has this name."""

@@ -27,10 +27,10 @@ from tests.lib.cats import cat_with
 from tests.lib.connections import NOWHERE, text_of
 from tests.lib.ended import DONE, Ended
 from tests.lib.given import given
+from tests.lib.nights import NIGHT, set_clock
 from tests.lib.places import built
 from tests.lib.recipes import MORE, OPERATING
 from tests.lib.servers import Server, serving
-from tests.lib.unattended import NIGHT, set_clock
 from tests.lib.waiting import GUARD_SECONDS
 from tests.lib.wire import device
 
@@ -44,8 +44,8 @@ MODIFIED = 2
 # Files whose last bytes are a hole.
 HOLES = "for k in 1 2 3 4 5; do for t in 1 500 1023 1025; do seq 9999 | head -c $((k * 1024)) > hole.$k.$t; truncate -s +$t hole.$k.$t; done; done"
 STEPS = (1, 2, 3, 5, 15)
-# So many of the commands above a night calls at level 0 and at level 1, with those that `unattended` calls.
-CALLS = (18, 18)
+# So many of the commands above a night calls at level 0 and at level 1.
+CALLS = (16, 16)
 
 # It does what the program of its name does, and at the call of a number kills the script, or all that the script started.
 KILLS = """#!/bin/sh
@@ -57,7 +57,7 @@ status=$?
 test "$n" -ne {at} || {kill_after}
 exit $status
 """
-KILLED = ("date", "stat", "flock", "rdump", "sed", "tar", "sync", "mv", "cp", "rm", "grep", "unattended")
+KILLED = ("date", "stat", "flock", "rdump", "sed", "tar", "sync", "mv", "cp", "rm", "grep")
 
 
 class Facts(NamedTuple):
@@ -107,7 +107,7 @@ class TreeCase(NightCase):
         # A file that changes from now on has another time than those before.
         time.sleep(SECOND)
         words = (NIGHT, str(level), "/usr", *(words or (str(self.tree), str(self.place))))
-        got = run(self.folder, *words, TO=text_of(self.server.address), DEVICE=device(0), PATH=self.path(), TIMES="0")
+        got = run(self.folder, *words, TO=text_of(self.server.address), DEVICE=device(0), PATH=self.path(), TIMES="1", PAUSE="0")
         time.sleep(SECOND)
         return got
 
@@ -155,7 +155,7 @@ class TreeCase(NightCase):
     def night_that_is_killed(self, day: int, level: int) -> int:
         """A night whose status is its signal."""
         self.at(day)
-        variables = {**os.environ, "TO": text_of(self.server.address), "DEVICE": device(0), "PATH": self.path(), "TIMES": "0"}
+        variables = {**os.environ, "TO": text_of(self.server.address), "DEVICE": device(0), "PATH": self.path(), "TIMES": "1", "PAUSE": "0"}
         words = ("sh", "-c", 'GROUP=$$ exec "$@"', "sh", NIGHT, str(level), "/usr", str(self.tree), str(self.place))
         quiet = subprocess.DEVNULL
         return subprocess.run(words, env=variables, stdin=quiet, stdout=quiet, stderr=quiet, start_new_session=True, check=False).returncode

@@ -82,7 +82,6 @@ FILES = {
     "rdump": """\
         755 usr/bin/rsim
         755 usr/lib/rdump/night
-        755 usr/lib/rdump/unattended
         755 usr/sbin/rdump
         644 usr/share/doc/rdump/CHANGELOG.md
         644 usr/share/doc/rdump/README.md
@@ -93,7 +92,6 @@ FILES = {
         644 usr/share/man/man5/rdump.5.gz
         644 usr/share/man/man8/night.8.gz
         644 usr/share/man/man8/rdump.8.gz
-        644 usr/share/man/man8/unattended.8.gz
     """,
 }
 # What dpkg reads of each package, but for the lines that both have.
@@ -850,9 +848,8 @@ class Installed(MachineCase):
         self.same("installed: the group tape", on.has_group("tape"), True)
         self.same("installed: no server runs", on.running("rmtd"), [])
         self.same("installed: nothing is enabled", on.enabled(), [])
-        for it in ("/usr/sbin/rmtd", "/usr/sbin/rdump", "/usr/bin/rsim", "/usr/lib/rdump/unattended"):
-            words = (it, "rdump", "--version") if it.endswith("unattended") else (it, "--version")
-            got = on.run(*words, user="nobody")
+        for it in ("/usr/sbin/rmtd", "/usr/sbin/rdump", "/usr/bin/rsim"):
+            got = on.run(it, "--version", user="nobody")
             self.same(f"installed: {it} runs for each user", got.returncode, 0, got.stdout)
         if on.exists("/usr/bin/systemd-analyze"):
             got = on.run("systemd-analyze", "--man=no", "verify", "rmtd.service", "tapes.socket", "tapes@.service")

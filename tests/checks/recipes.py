@@ -53,6 +53,20 @@ AWAY = "take it away (rdump mt --to ADDRESS --device DEVICE offline 1) or lay an
 FOREIGN = "rdump: ADDRESS: the first reel of DEVICE is not a volume of rdump:"
 # The messages that no recipe shows, each with the reason.
 UNSHOWN = {
+    "rdump: ADDRESS: given up: without --checkpoint the dump is abandoned": "tests/checks/unattended.py shows it",
+    "rdump: FILE and FILE have lines of one dump, NAME level N date N since N: leave out one of them": "tests/checks/cat_catalog.py shows it",
+    "rdump: FILE.payload: it could not be removed: REASON": "it takes a folder that its user may no longer write during the dump",
+    "rdump: FILE: it could not be replaced": "the system's error stands in its place",
+    (
+        "rdump: FILE: it is gone, and the dump of FILE cannot go on without it: remove FILE, and run the same command with its pipe again"
+    ): "tests/checks/spooled.py shows it",
+    (
+        "rdump: FILE: it is there without a checkpoint: if a run of this command left it, remove it, and run the command with its pipe again"
+    ): "tests/checks/spooled.py shows it",
+    "rdump: FOLDER: its names .rdump-spool.0 to .rdump-spool.999 are taken: remove these files": "it takes a thousand files of these names",
+    "rdump: going on with FILE: standard input is not read": "tests/checks/spooled.py shows it",
+    "rdump: standard input: REASON": "it takes a stream whose read fails",
+    "rdump: standard input: it gave no byte: a dump of nothing needs --allow-empty": "tests/checks/spooled.py shows it",
     "error: invalid value for '--idle <SECONDS>': a number is 0 to 9223372036854775807 in digits": "tests/checks/doors.py shows it",
     "rdump: --partial: no block is missing": "tests/checks/cat_partial.py shows it",
     "rdump: blocks N to N are missing: zero bytes are in their place": "tests/checks/cat_partial.py shows it",

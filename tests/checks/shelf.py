@@ -21,9 +21,9 @@ from tests.checks.night import Mail
 from tests.lib.case import Case
 from tests.lib.ended import DONE
 from tests.lib.listings import Label, dump_words, utc
+from tests.lib.nights import TO_SHELF, moved_clock, set_clock
 from tests.lib.places import built
 from tests.lib.recipes import MORE
-from tests.lib.unattended import TO_SHELF, moved_clock, set_clock
 from tests.lib.waiting import GUARD_SECONDS
 from tests.models.found import Dump as DumpId
 from tests.models.found import begun_line, finished_line, volume_line

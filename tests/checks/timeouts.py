@@ -31,7 +31,6 @@ from tests.lib.listings import wire_words
 from tests.lib.played_servers import Model, Received, Reel
 from tests.lib.processes import sleeps, state, stop_for, tried
 from tests.lib.servers import listening, serving
-from tests.lib.unattended import UNATTENDED
 from tests.lib.volumes import ROOMY, printed, reels_of, volumes_of
 from tests.lib.waiting import FAR, GREATEST, GUARD_SECONDS, soon
 from tests.lib.wire import DEVICE
@@ -443,8 +442,8 @@ class Unattended(EachCommandCase):
             for number in range(6):
                 server.reel(f"r{number}")
             errors = Path(name, "errors")
-            words = [UNATTENDED, self.p.rdump, *self.p.dump_words(text_of(server.address), "--timeout", str(LIMIT), "--catalog", f"{name}/catalog")]
-            with errors.open("wb") as told_there, self.started(words, told_there) as client:
+            words = ("--protect", "--retry", "60", "--pause", "1", "--timeout", str(LIMIT), "--catalog", f"{name}/catalog")
+            with errors.open("wb") as told_there, self.started(self.p.dump_words(text_of(server.address), *words), told_there) as client:
                 self.holds(f"{title}: the dump comes there", soon(lambda: length(server.stacks[0] / amid) > 3_000))
                 os.kill(server.process.pid, signal.SIGSTOP)
                 gives_up = soon(lambda: errors.read_text().count(TIMED_OUT) >= 2 or client.poll() is not None)
@@ -464,9 +463,9 @@ class Unattended(EachCommandCase):
 
     @contextmanager
     def started(self, words: Sequence[str], errors: IO[bytes]) -> Iterator[subprocess.Popen[bytes]]:
-        """A dump with a short pause before it is tried again, which is ended by SIGTERM where it is still there."""
-        environment = {**os.environ, "PAUSE": "1"}
-        with subprocess.Popen(words, cwd=self.p.folder, env=environment, stdin=subprocess.DEVNULL, stdout=subprocess.PIPE, stderr=errors) as client:
+        """A dump that is ended by SIGTERM where it is still there."""
+        program = (self.p.rdump, *words)
+        with subprocess.Popen(program, cwd=self.p.folder, stdin=subprocess.DEVNULL, stdout=subprocess.PIPE, stderr=errors) as client:
             try:
                 yield client
             finally:

@@ -59,6 +59,13 @@ def start(p: Programs, *words: str) -> subprocess.Popen[bytes]:
 
 def acted_on(p: Programs, number: int, act: Callable[[subprocess.Popen[bytes]], object], lost: bool, *more: str, **changed: str | None) -> Ended[str]:
     """A dump to which something is done when its request of this number has come. The reply to that is lost then, or is not."""
+    return acted_on_saying(p, b"", number, act, lost, *more, **changed)
+
+
+def acted_on_saying(
+    p: Programs, said: bytes, number: int, act: Callable[[subprocess.Popen[bytes]], object], lost: bool, *more: str, **changed: str | None
+) -> Ended[str]:
+    """The same with a dump whose standard input has these bytes."""
     runs: list[subprocess.Popen[bytes]] = []
     is_there = threading.Event()
 
@@ -69,17 +76,18 @@ def acted_on(p: Programs, number: int, act: Callable[[subprocess.Popen[bytes]], 
     with Model(*two(), acts={number: do}, lost=(number,) if lost else ()) as model:
         runs.append(started(p, model.address, *more, **changed))
         is_there.set()
-        return end_of(p.case, runs[0])
+        return end_of(p.case, runs[0], said)
 
 
 def stopped_at(p: Programs, number: int, *more: str, by: int = signal.SIGKILL, **changed: str | None) -> Ended[str]:
     """A dump that a signal ends when its request of this number has come."""
+    return acted_on(p, number, lambda run: stop(run, by), True, *more, **changed)
 
-    def stop(run: subprocess.Popen[bytes]) -> None:
-        run.send_signal(by)
-        run.wait(GUARD_SECONDS)
 
-    return acted_on(p, number, stop, True, *more, **changed)
+def stop(run: subprocess.Popen[bytes], by: int = signal.SIGKILL) -> None:
+    """Ends a program by a signal."""
+    run.send_signal(by)
+    run.wait(GUARD_SECONDS)
 
 
 def fill(folder: Path) -> None:

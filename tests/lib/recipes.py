@@ -41,7 +41,6 @@ $ find /usr/local ! -type d ! -path '*/share/doc/*' -printf '%m %u %g %P\\n' | s
 644 root root share/man/man8/take-dumpdates.8
 644 root root share/man/man8/tapes.8
 644 root root share/man/man8/to-shelf.8
-644 root root share/man/man8/unattended.8
 $ find /usr/local/share/doc -name MESSAGES.md -printf '%m %u %g %P\\n'
 644 root root rdump/MESSAGES.md
 $ find /usr/local -type d ! -perm 755

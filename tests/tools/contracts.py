@@ -141,7 +141,8 @@ def read_calls(file: Path, shown: set[str]) -> Iterator[Call]:
     lines = file.read_text().split("\n")
     for i, line in enumerate(lines):
         place = f"{file.relative_to(TOP / 'crates')}:{i + 1}"
-        if begun := owner_of(line):
+        # The head of an impl may go on in the next line.
+        if begun := owner_of(line + lines[i + 1].lstrip() if re.match(r"impl<.*>$", line) else line):
             owner, of_trait = begun
             if of_trait:
                 yield Call(owner, "", place, "\n".join(lines[front(lines, i) : end_of_block(lines, i)]), frozenset(), False, False, False)

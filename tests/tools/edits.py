@@ -21,7 +21,7 @@ class Pair(NamedTuple):
 
 
 def pairs(text: str) -> list[Pair]:
-    """The pairs of an edit or a control, in order."""
+    """The pairs of an edit or a control, in order. A line `more:` is one more line of the text of the pair before it."""
     found, file, old = [], "", ""
     for line in text.splitlines():
         word, _, rest = line.partition(": " if ": " in line else ":")
@@ -31,12 +31,16 @@ def pairs(text: str) -> list[Pair]:
             old = rest
         elif word == "new":
             found.append(Pair(file, old, rest))
+        elif word == "more":
+            found[-1] = found[-1]._replace(new=f"{found[-1].new}\n{rest}")
     return found
 
 
 def is_beside(control: list[Pair], edit: list[Pair]) -> bool:
-    """Whether a control stands where its edit stands, and says something else."""
-    return [it[:2] for it in control] == [it[:2] for it in edit] and control != edit and all(it.file.startswith("src/") for it in control)
+    """Whether a control stands where its edit stands, and says something else. Where the edit brings definitions and lemmas of its own, the control
+    brings the same: only the answers of a function may differ as its body does."""
+    is_other = [it.file.startswith("src/") or it.file.endswith("/Answers.antt") or it in edit for it in control]
+    return [it[:2] for it in control] == [it[:2] for it in edit] and control != edit and all(is_other)
 
 
 def applied(folder: Path, changes: list[Pair], texts: dict[str, str] | None = None) -> dict[str, str]:

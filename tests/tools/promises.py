@@ -25,7 +25,9 @@ from tests.tools.edits import FOLDERS, applied, is_beside, pairs
 
 PAGE = TOP / "docs" / "PROMISES.md"
 # The lines that an edit may have.
-LINES = re.compile(r"(?:file|old|new|# breaks|# limit):|$")
+LINES = re.compile(r"(?:file|old|new|more|# breaks|# limit):|$")
+# Those of an edit that `rt ci` tries.
+LINES_ALONE = re.compile(r"(?:file|old|new|# breaks|# limit):|$")
 NO_OTHER = "The types allow no other body, so no wrong body is tried."
 # How many edits `rt ci` tries at most.
 MOST_ALONE = 25
@@ -62,7 +64,8 @@ def faults_of_edits() -> Iterator[str]:
             yield f"{it.relative_to(TOP)} can't be applied: {why}"
     for name, edit in known.items():
         control = edit.with_suffix(".control.md")
-        yield from (f"{name} has a line that nothing reads: {line}" for line in edit.read_text().split("\n") if not LINES.match(line))
+        lines = LINES_ALONE if edit.parent.name == FOLDERS[0] else LINES
+        yield from (f"{name} has a line that nothing reads: {line}" for line in edit.read_text().split("\n") if not lines.match(line))
         if control.exists() and not is_beside(pairs(control.read_text()), pairs(edit.read_text())):
             yield f"the control of {name} is no other text at the places of its edit"
 

@@ -124,6 +124,22 @@ class Places(Made):
         more = edit("more", "    fn from(_: AllocError)", "    fn other(&self) {} fn from(_: AllocError)")
         self.same("what is added to the impl of a trait is looked at", more.only[-1:], ["WordFaultFromAllocError::other"], more)
 
+    def test_more_lines(self) -> None:
+        found = edits.pairs("file: src/lib.rt\nold: a\nnew: b\nmore:   c\nmore:\nmore: d: e\nfile: src/word.rt\nold: f\nnew: g\n# breaks: words\n")
+        self.same("lines after the new one", found, [Pair("src/lib.rt", "a", "b\n  c\n\nd: e"), Pair("src/word.rt", "f", "g")])
+
+    def test_controls(self) -> None:
+        body, lemma, answer = "src/lib.rt", "proofs/Words.antt", "proofs/count/Answers.antt"
+        wrong = [Pair(body, "a", "b"), Pair(lemma, "c", "d"), Pair(answer, "e", "f")]
+        for title, control, wanted in (
+            ("another body", [Pair(body, "a", "c"), *wrong[1:]], True),
+            ("another body and answer", [Pair(body, "a", "c"), wrong[1], Pair(answer, "e", "g")], True),
+            ("another lemma", [Pair(body, "a", "c"), Pair(lemma, "c", "e"), wrong[2]], False),
+            ("the same", wrong, False),
+            ("another place", [Pair(body, "b", "c"), *wrong[1:]], False),
+        ):
+            self.same(title, edits.is_beside(control, wrong), wanted)
+
     def test_no_change(self) -> None:
         self.same("the same text changes nothing", edit("same", "self.count = 0;", "self.count = 0;").places, [])
 

@@ -14,6 +14,8 @@ mod listing;
 mod looks;
 mod operations;
 mod payload;
+mod retries;
+mod spools;
 mod store;
 mod tapes;
 mod volumes;

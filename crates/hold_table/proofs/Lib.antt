@@ -6,3 +6,4 @@ pub mod Allowed
 pub mod Ended
 pub mod Dealt
 pub mod Moved
+pub mod Witnesses

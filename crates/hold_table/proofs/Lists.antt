@@ -1,5 +1,5 @@
 -- Lists read by `get_elem?`.
-use Rattle.std.proofs.Common.{◌≡◌, ◌⊎◌, inl, inr, ⊎_elim, ℕ, zero, suc, ◌+◌, ◌<◌, List, [], ◌∷◌, ◌++◌, map, length, replicate, get_or, sym, refl, arith}
+use Rattle.std.proofs.Common.{◌≡◌, ◌⊎◌, inl, inr, ⊎_elim, ℕ, zero, suc, ◌<◌, ◌≤◌, List, [], ◌∷◌, ◌++◌, map, length, replicate, get_or, sym, refl, ap, arith}
 use Rattle.std.proofs.lemmas.List.{get_or_default}
 use mathlib.Core.Option.{some, some-injective, some-ne-none}
 use lib.ListN.{get_elem?}
@@ -21,9 +21,21 @@ module _ {A : Type 0} where
   at_snoc_where (x ∷ xs) a b zero e = inl e
   at_snoc_where (x ∷ xs) a b (suc j) e = ⊎_elim inl (λ t. let t0 = t.0 in inr (omega arith, t.1)) (at_snoc_where xs a b j e)
 
-  pub at_cons : (a b : A) (l : List A) (k : ℕ) → get_elem? (a ∷ l) k ≡ some b → ((k ≡ 0) × (a ≡ b)) ⊎ ((i : ℕ) × (k ≡ i + 1) × (get_elem? l i ≡ some b))
-  at_cons a b l zero e = inl (refl, some-injective a b e)
-  at_cons a b l (suc k) e = inr (k, omega arith, e)
+  -- A list with one more element `a`, after the elements of `l`: what it has at an index is `a`, or
+  -- what the list had at this index or at the one before.
+  pub at_insert : (l m : List A) (a b : A) (j : ℕ) → get_elem? (l ++ a ∷ m) j ≡ some b
+      → ((j ≡ length l) × (a ≡ b)) ⊎ ((i : ℕ) × (get_elem? (l ++ m) i ≡ some b) × (((i < length l) × (j ≡ i)) ⊎ ((length l ≤ i) × (j ≡ suc i))))
+  at_insert [] m a b zero e = inl (refl, some-injective a b e)
+  at_insert [] m a b (suc j) e = inr (j, e, inr (omega arith, refl))
+  at_insert (x ∷ xs) m a b zero e = inr (zero, e, inl (omega arith, refl))
+  at_insert (x ∷ xs) m a b (suc j) e = ⊎_elim (λ t. inl (ap suc t.0, t.1))
+      (λ t. inr (suc t.0, t.1, ⊎_elim (λ u. let u0 = u.0 in inl (omega arith, ap suc u.1)) (λ u. let u0 = u.0 in inr (omega arith, ap suc u.1)) t.2)) (at_insert xs m a b j e)
+
+  -- what a list has at an index, it has at this index or at the next one, with one more element after its first
+  pub at_second : (x a b : A) (m : List A) (j : ℕ) → get_elem? (x ∷ m) j ≡ some b
+      → (i : ℕ) × (get_elem? (x ∷ a ∷ m) i ≡ some b) × (((j ≡ 0) × (i ≡ 0)) ⊎ ((1 ≤ j) × (i ≡ suc j)))
+  at_second x a b m zero e = (zero, e, inl (refl, refl))
+  at_second x a b m (suc j) e = (suc (suc j), e, inr (omega arith, refl))
 
   -- where a list of images has one, the list has what it is of
   pub at_image : {B : Type 0} (f : B → A) (l : List B) (k : ℕ) (a : A) → get_elem? (map f l) k ≡ some a → (b : B) × (get_elem? l k ≡ some b) × (f b ≡ a)

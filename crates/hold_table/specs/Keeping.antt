@@ -5,7 +5,6 @@ use Rattle.std.specs.Prelude.{◌≡◌, ◌≢◌, ◌⊎◌, ◌↔◌, ℕ, �
 use mathlib.Core.Option.{some}
 use lib.ListN.{get_elem?}
 use Rattle.atomic_table.specs.Table.{Me, Step}
-use Rattle.atomic_table.specs.Seated.{TableId}
 use Rattle.drives.specs.declared.holds.TheConstants.{DRIVE_LIMIT}
 use Rattle.hold_table.specs.declared.table.TheConstants.{SEAT_LIMIT}
 use Rattle.drives.specs.declared.view.LastStep.{LastStep}
@@ -13,14 +12,13 @@ use Rattle.drives.specs.declared.view.View.{View}
 use Rattle.drives.specs.Holding.{has, newcomer, taken, given, looked}
 use Rattle.hold_table.specs.declared.rule.Seated.{Seated}
 use Rattle.hold_table.specs.Rule.{seated, HoldRule, IsRuledStep}
-use Rattle.hold_table.specs.Seats.{TableSeat, table_seat, FoundHolder}
+use Rattle.hold_table.specs.Seats.{IsFound, FoundHolder}
 
 -- no seat: the value at an index where a list has none
 abbrev pub nobody : Seated
 nobody = seated (newcomer 0) 0 0
 
--- The seats that one seat of `atomic_table` represents. That is one seat, except inside
--- `HoldTable::apart` and `HoldTable::close`.
+-- The seats that one seat of `atomic_table` represents: one seat, before its witnesses.
 abbrev pub SeatGroup : Type 0
 SeatGroup = List Seated
 
@@ -28,21 +26,26 @@ SeatGroup = List Seated
 abbrev pub first_of : SeatGroup → Seated
 first_of c = slice_index_or c 0 nobody
 
+-- the seats of a group after its first
+abbrev pub others_of : SeatGroup → SeatGroup
+others_of [] = []
+others_of (x ∷ xs) = xs
+
 -- the second seat of a group
 abbrev pub second_of : SeatGroup → Seated
-second_of c = slice_index_or c 1 nobody
+second_of c = first_of (others_of c)
+
+-- what the seats of a group know
+abbrev pub group_views : SeatGroup → List View
+group_views c = map (λ x. x.view) c
 
 -- a seat of `atomic_table`, which has no slots
 abbrev pub AtomicSeat : Type 0
 AtomicSeat = Me (Unit {0}) SeatGroup
 
--- this seat of `atomic_table` represents one seat of the table
-abbrev pub IsAlone : AtomicSeat → Type 0
-IsAlone me = me ≡ (first_of me.0 ∷ [], [])
-
--- this seat of `atomic_table` represents two seats of the table
-abbrev pub IsPair : AtomicSeat → Type 0
-IsPair me = me ≡ (first_of me.0 ∷ second_of me.0 ∷ [], [])
+-- this seat of `atomic_table` represents one seat of the table, and its witnesses
+abbrev pub IsLed : AtomicSeat → Type 0
+IsLed me = me ≡ (first_of me.0 ∷ others_of me.0, [])
 
 -- a seat after it has passed its spare numbers on
 abbrev pub settled : Seated → Seated
@@ -101,32 +104,34 @@ pub record KeepsRule (drives : ℕ) (words : List ℕ) (companies : List SeatGro
   pub rule : HoldRule words seats
   pub spread : AreGrouped seats companies
 
--- after a step by a seat that represents one seat, that one is x
-abbrev pub StepsTo : AtomicSeat → Seated → Type 0
-StepsTo me' x = IsAlone me' × (first_of me'.0 ≡ x)
+-- after a step by the first seat of a group, that one is x, and the others are as they were
+abbrev pub StepsTo : AtomicSeat → AtomicSeat → Seated → Type 0
+StepsTo me me' x = IsLed me' × (first_of me'.0 ≡ x) × (others_of me'.0 ≡ others_of me.0)
 
 -- an atomic step that is a take: it found the number `found`, and leaves the seat as `me'`
 abbrev pub TakesAt : Step (Unit {0}) → AtomicSeat → ℕ → AtomicSeat → Type 0
 TakesAt s me found me' =
-    StepsTo me' (stepped (first_of me.0) (taken (first_of me.0).view s.word found))
+    StepsTo me me' (stepped (first_of me.0) (taken (first_of me.0).view s.word found))
     × (found ≤ SEAT_LIMIT)
     × (found ≡ 0 → (has (first_of me.0).view s.word ≡ false) × (has (first_of me'.0).view s.word ≡ true))
     × IsRuledStep s.word (first_of me.0).view (first_of me.0).made found
     (cond (found == 0) (first_of me.0).view.number found) (first_of me'.0).view
+    × IsFound found s.word (group_views (first_of me.0 ∷ others_of me.0))
 
 -- an atomic step that is a give: it leaves the seat as `me'`
 abbrev pub GivesAt : Step (Unit {0}) → AtomicSeat → ℕ → AtomicSeat → Type 0
 GivesAt s me stored me' =
-    StepsTo me' (stepped (first_of me.0) (given (first_of me.0).view s.word))
+    StepsTo me me' (stepped (first_of me.0) (given (first_of me.0).view s.word))
     × IsRuledStep s.word (first_of me.0).view (first_of me.0).made (first_of me.0).view.number 0 (first_of me'.0).view
 
 -- an atomic step that is a look: it found the number `found`, and leaves the seat as `me'`
 abbrev pub LooksAt : Step (Unit {0}) → AtomicSeat → ℕ → AtomicSeat → Type 0
 LooksAt s me found me' =
-    StepsTo me' (stepped (first_of me.0) (looked (first_of me.0).view s.word found))
+    StepsTo me me' (stepped (first_of me.0) (looked (first_of me.0).view s.word found))
     × (found ≤ SEAT_LIMIT)
     × ((found == (first_of me.0).view.number) ≡ has (first_of me.0).view s.word)
     × IsRuledStep s.word (first_of me.0).view (first_of me.0).made found found (first_of me'.0).view
+    × IsFound found s.word (group_views (first_of me.0 ∷ others_of me.0))
 
 -- the number found is that of the seat if and only if the seat holds the drive
 abbrev pub FindsAs : ℕ → ℕ → Seated → Type 0
@@ -154,7 +159,3 @@ ComparesAt s me found me' =
 -- a new group represents no seat
 abbrev pub EntersAt : Step (Unit {0}) → AtomicSeat → ℕ → AtomicSeat → Type 0
 EntersAt s me found me' = me'.0 ≡ []
-
--- the seats of a group, as contracts see them
-abbrev pub shown : TableId → SeatGroup → List TableSeat
-shown t c = map (λ x. table_seat t x.view x.made) c

@@ -15,9 +15,13 @@ pub struct TableHand<'a> {
 
 impl<'a> Holds for TableHand<'a> {
     // A `TableHand` is a shared reference to a table, and implements the trait `Holds` of the crate
-    // `drives`. The contracts of a `TableHand` do not say who holds a drive, because other threads
-    // can make steps at any time. After each call the given seat still belongs to the table, and
-    // the `TableHand` still refers to the same table.
+    // `drives`. The contracts of a `TableHand` only say of the given seat and of its witnesses
+    // whether they hold a drive, because other threads can make steps at any time. After each call
+    // the given seat still belongs to the table, and the `TableHand` still refers to the same
+    // table.
+    //
+    // beside: The number that `take` finds or `holder` returns is the number of the given seat, or
+    // of one of its witnesses, if and only if this seat holds the drive.
     //
     // take, step, answer, known, own, same, rule: `take` calls the table's `take`, which makes one
     // step. The hold rule (a drive's word is 0 or the number of the drive's only holder) is true
@@ -30,10 +34,10 @@ impl<'a> Holds for TableHand<'a> {
     // step. The hold rule is true before and after the step. `holder` returns the given seat's
     // number if and only if the given seat holds the drive.
 
-    ghost use Rattle.std.specs.Prelude.{◌≡◌, ◌<◌, ◌≤◌, ◌↔◌, ◌==◌, cond, IsTrue};
+    ghost use Rattle.std.specs.Prelude.{◌≡◌, ◌<◌, ◌≤◌, ◌↔◌, ◌==◌, cond, [], IsTrue};
     ghost use Rattle.drives.specs.Holding.{has, taken, given, looked, found_by, TakeAnswers};
     ghost use Rattle.hold_table.specs.Rule.{IsRuledStep};
-    ghost use Rattle.hold_table.specs.Seats.{next, IsSeatAt};
+    ghost use Rattle.hold_table.specs.Seats.{next, views_among, IsSeatAt, IsFound};
     ghost use Rattle.hold_table.specs.declared.table.TheConstants.{SEAT_LIMIT};
 
     type Seat = HoldSeat;
@@ -58,6 +62,7 @@ impl<'a> Holds for TableHand<'a> {
         ensures same { self.new ≡ self.old }
         ensures rule { IsRuledStep drive seat.old.view seat.old.made (found_by result)
             (cond (found_by result == 0) seat.old.view.number (found_by result)) seat.new.view }
+        ensures beside { IsFound (found_by result) drive (views_among seat.old []) }
     {
         self.table.take(seat, drive)
     }
@@ -82,6 +87,7 @@ impl<'a> Holds for TableHand<'a> {
         ensures mine { result ≡ seat.old.view.number ↔ IsTrue (has seat.old.view drive) }
         ensures own { IsSeatAt self.now.table.now seat.new }
         ensures rule { IsRuledStep drive seat.old.view seat.old.made result result seat.new.view }
+        ensures beside { IsFound result drive (views_among seat.old []) }
     {
         self.table.holder(seat, drive)
     }

@@ -22,12 +22,18 @@
 //! cannot name the table's words or the table's other seats. The clause only says that some words
 //! and some other seats exist for which the hold rule is true before and after the step. A wrong
 //! body could satisfy the clause `rule` with words and seats that the table does not have. But one
-//! call of `apart` or `close` gets several seats of one table, so the clauses of these calls are
-//! about the table's own words and seats. They rule out bodies with which two seats hold one drive,
-//! or `take` never returns `Held`. They do not rule out a `holder` or a `Busy` with a wrong number,
-//! or a drive that stays busy after a `give`: the tests show that these are right.
+//! call of `apart`, `close`, `take_among` or `holder_among` gets several seats of one table, so the
+//! clauses of these calls are about the table's own words and seats. They rule out bodies with
+//! which two seats hold one drive, or `take` never returns `Held`.
+//!
+//! `take_among` and `holder_among` lend other seats to the seat that makes the step. While a seat
+//! is lent, it is a *witness* of that seat. These calls call `take` or `holder` once. Their clauses
+//! rule out a look or a `Busy` with a wrong number, and a drive that stays busy after a `give`, for
+//! the seats that are lent. If the holder of a drive is not among these seats, no clause says which
+//! other number is found.
 #![tactic(auto)]
 
+mod among;
 mod hand;
 mod laws;
 mod rule;

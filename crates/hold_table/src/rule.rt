@@ -17,8 +17,8 @@ pub struct Seated {
     pub spare: u64,
 }
 
-/// A group: the seats that one seat of `atomic_table` represents. That is one seat, except inside
-/// `HoldTable::apart` and `HoldTable::close`.
+/// A group: the seats that one seat of `atomic_table` represents. That is one seat, before its
+/// witnesses.
 pub(crate) type SeatGroup = LinkedList<Seated>;
 
 /// The rule of the table. Its key is the number of drives.
@@ -75,30 +75,43 @@ impl Play<(), SeatGroup> for Looks {
     ghost then = { LooksAt };
 }
 
-/// The seats of another group are added to a group, before its own.
+/// The first seat of another group is added to a group, before its own.
 pub(crate) struct Gather;
 
 impl Join<SeatGroup> for Gather {
-    ghost use Rattle.std.specs.Prelude.{[], ◌++◌};
+    ghost use Rattle.std.specs.Prelude.{[], ◌∷◌};
+    ghost use Rattle.hold_table.specs.Keeping.{first_of};
 
-    ghost both = { λ c d. d ++ c };
+    ghost both = { λ c d. first_of d ∷ c };
 
     ghost spent = { [] };
 }
 
-/// A group of two seats is split into two groups of one seat each.
-pub(crate) struct Part;
+/// The first seat of another group becomes the first witness of a group's first seat.
+pub(crate) struct Invite;
 
-impl Split<SeatGroup> for Part {
+impl Join<SeatGroup> for Invite {
     ghost use Rattle.std.specs.Prelude.{[], ◌∷◌};
-    ghost use Rattle.hold_table.specs.Keeping.{first_of, second_of};
+    ghost use Rattle.hold_table.specs.Keeping.{first_of, others_of};
 
-    ghost left = { λ c. first_of c ∷ [] };
+    ghost both = { λ c d. first_of c ∷ first_of d ∷ others_of c };
+
+    ghost spent = { [] };
+}
+
+/// The first witness leaves a group, and is a group of its own.
+pub(crate) struct Dismiss;
+
+impl Split<SeatGroup> for Dismiss {
+    ghost use Rattle.std.specs.Prelude.{[], ◌∷◌};
+    ghost use Rattle.hold_table.specs.Keeping.{first_of, second_of, others_of};
+
+    ghost left = { λ c. first_of c ∷ others_of (others_of c) };
 
     ghost right = { λ c. second_of c ∷ [] };
 }
 
-/// One look by a group of two seats.
+/// One look by a seat with a witness, which changes neither.
 pub(crate) struct Compares;
 
 impl Play<(), SeatGroup> for Compares {

@@ -1,6 +1,6 @@
 //! A seat at the table.
 ghost use Rattle.std.specs.Prelude.{◌≡◌};
-ghost use Rattle.hold_table.specs.Seats.{table_seat};
+ghost use Rattle.hold_table.specs.Seats.{seat_beside};
 
 use crate::rule::SeatGroup;
 use atomic_table::Seat;
@@ -17,12 +17,12 @@ pub struct HoldSeat {
 
 impl Model for HoldSeat {
     ghost use Rattle.std.specs.Prelude.{◌≡◌};
-    ghost use Rattle.hold_table.specs.Keeping.{IsAlone, first_of};
-    ghost use Rattle.hold_table.specs.Seats.{TableSeat, table_seat};
+    ghost use Rattle.hold_table.specs.Keeping.{IsLed, first_of, others_of};
+    ghost use Rattle.hold_table.specs.Seats.{TableSeat, seat_beside};
 
     ghost Value = { TableSeat };
 
-    ghost view = { λ s. table_seat s.seat.table_id (first_of s.seat.me.0).view (first_of s.seat.me.0).made };
+    ghost view = { λ s. seat_beside s.seat.table_id (first_of s.seat.me.0).view (first_of s.seat.me.0).made (others_of s.seat.me.0) };
 
-    ghost invariant = { λ s. IsAlone s.seat.me × ((first_of s.seat.me.0).view.number ≡ s.number) };
+    ghost invariant = { λ s. IsLed s.seat.me × ((first_of s.seat.me.0).view.number ≡ s.number) };
 }

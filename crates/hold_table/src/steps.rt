@@ -2,11 +2,11 @@
 //! makes it knows.
 //!
 //! The word of a drive is the number of the seat that holds it, or 0 if none does.
-ghost use Rattle.std.specs.Prelude.{◌≡◌, ◌<◌, ◌≤◌, ◌↔◌, ◌==◌, true, false, cond, IsTrue};
+ghost use Rattle.std.specs.Prelude.{◌≡◌, ◌<◌, ◌≤◌, ◌↔◌, ◌==◌, true, false, cond, [], IsTrue};
 ghost use Rattle.drives.specs.Holding.{has, taken, given, looked};
 ghost use Rattle.hold_table.specs.Rule.{IsRuledStep};
 ghost use Rattle.hold_table.specs.declared.table.TheConstants.{SEAT_LIMIT};
-ghost use Rattle.hold_table.specs.Seats.{next, IsSeatAt};
+ghost use Rattle.hold_table.specs.Seats.{next, views_among, IsSeatAt, IsFound};
 
 use crate::rule::{Gives, Looks, Takes};
 use crate::seat::HoldSeat;
@@ -22,6 +22,7 @@ impl HoldTable {
         ensures free { result ≡ 0 → (has seat.old.view drive ≡ false) × (has seat.new.view drive ≡ true) }
         ensures rule { IsRuledStep drive seat.old.view seat.old.made result
             (cond (result == 0) seat.old.view.number result) seat.new.view }
+        ensures beside { IsFound result drive (views_among seat.old []) }
     {
         self.table
             .shared
@@ -48,6 +49,7 @@ impl HoldTable {
         ensures known { result ≤ SEAT_LIMIT }
         ensures mine { result ≡ seat.old.view.number ↔ IsTrue (has seat.old.view drive) }
         ensures rule { IsRuledStep drive seat.old.view seat.old.made result result seat.new.view }
+        ensures beside { IsFound result drive (views_among seat.old []) }
     {
         self.table.shared.load::<Looks>(&mut seat.seat, drive)
     }

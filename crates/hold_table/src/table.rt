@@ -5,7 +5,7 @@ ghost use Rattle.std.specs.Prelude.{◌≡◌, ◌-◌, ◌<◌, ◌≤◌, ◌�
 ghost use Rattle.drives.specs.declared.holds.TheConstants.{DRIVE_LIMIT};
 ghost use Rattle.drives.specs.Holding.{has, newcomer, taken, given, looked, found_by, TakeAnswers, HoldsJust};
 ghost use Rattle.hold_table.specs.Rule.{seated, IsRuledStep};
-ghost use Rattle.hold_table.specs.Seats.{next, dealt, IsSeatAt};
+ghost use Rattle.hold_table.specs.Seats.{next, dealt, views_among, IsSeatAt, IsFound};
 
 use crate::rule::{Deal, HoldLaw, SeatGroup};
 use crate::seat::HoldSeat;
@@ -49,11 +49,12 @@ impl HoldTable {
         requires some { 1 ≤ drives }
         requires few { drives ≤ DRIVE_LIMIT }
         // The new table has the given number of drives, and no seat holds a drive. `new` also
-        // returns the table's 32 seats, in the order of their numbers.
+        // returns the table's 32 seats, in the order of their numbers. No seat has a witness.
         ensures drives { IfOk result (λ made. made.0.words ≡ drives) }
         ensures seats { IfOk result (λ made. made.1.items ≡ dealt made.0 SEAT_LIMIT) }
         ensures count { IfOk result (λ made. length made.1.items ≡ SEAT_LIMIT) }
         ensures idle { IfOk result (λ made. All (λ s. IsSeatAt made.0 s × HoldsJust s.view None) made.1.items) }
+        ensures lone { IfOk result (λ made. All (λ s. s.beside ≡ []) made.1.items) }
     {
         let (table, first) = HoldTable::laid(alloc, drives)?;
         let seats = table.deal(alloc, first)?;
@@ -81,6 +82,7 @@ impl HoldTable {
         requires first { first.me ≡ (seated (newcomer 1) 0 (SEAT_LIMIT - 1) ∷ [], []) }
         ensures seats { IfOk result (λ seats. seats.items ≡ dealt self.now SEAT_LIMIT) }
         ensures idle { IfOk result (λ seats. All (λ s. IsSeatAt self.now s × HoldsJust s.view None) seats.items) }
+        ensures lone { IfOk result (λ seats. All (λ s. s.beside ≡ []) seats.items) }
     {
         let mut seat = first;
         let mut seats = Vec::with_capacity(alloc, SEAT_LIMIT)?;
@@ -117,6 +119,9 @@ impl HoldTable {
         ensures known { found_by result ≤ SEAT_LIMIT }
         ensures rule { IsRuledStep drive seat.old.view seat.old.made (found_by result)
             (cond (found_by result == 0) seat.old.view.number (found_by result)) seat.new.view }
+        // The number that `take` finds is the number of the given seat, or of one of its witnesses,
+        // if and only if this seat holds the drive. Only `take_among` gives a seat witnesses.
+        ensures beside { IsFound (found_by result) drive (views_among seat.old []) }
     {
         let found = self.claim(seat, drive);
         if found == 0 {
@@ -156,6 +161,9 @@ impl HoldTable {
         ensures mine { result ≡ seat.old.view.number ↔ IsTrue (has seat.old.view drive) }
         // The hold rule is true before and after the step.
         ensures rule { IsRuledStep drive seat.old.view seat.old.made result result seat.new.view }
+        // `holder` returns the number of the given seat, or of one of its witnesses, if and only if
+        // this seat holds the drive. Only `holder_among` gives a seat witnesses.
+        ensures beside { IsFound result drive (views_among seat.old []) }
     {
         self.read(seat, drive)
     }

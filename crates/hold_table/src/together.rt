@@ -4,11 +4,11 @@
 ghost use Rattle.std.specs.Prelude.{◌≡◌, ◌≢◌, ℕ, ◌<◌, ◌≤◌, ◌↔◌, ◌∷◌, All, IsTrue, false, slice_index, slice_index_or};
 ghost use Rattle.drives.specs.Holding.{has};
 ghost use Rattle.hold_table.specs.Closing.{IsClosing};
-ghost use Rattle.hold_table.specs.Keeping.{shown};
-ghost use Rattle.hold_table.specs.Seats.{IsSeatAt, FoundHolder};
+ghost use Rattle.hold_table.specs.Keeping.{group_views};
+ghost use Rattle.hold_table.specs.Seats.{views_of, IsSeatAt, FoundHolder, lone};
 ghost use Rattle.hold_table.specs.declared.table.TheConstants.{SEAT_LIMIT};
 
-use crate::rule::{Compares, Enters, Gather, Part, SeatGroup};
+use crate::rule::{Compares, Dismiss, Enters, Gather, Invite, SeatGroup};
 use crate::seat::HoldSeat;
 use crate::table::HoldTable;
 use atomic_table::{Closed, Seat};
@@ -33,8 +33,8 @@ impl HoldTable {
         requires one { IsSeatAt self.now one }
         requires other { IsSeatAt self.now other }
         requires drive { drive < self.now.words }
-        // `apart` returns both seats unchanged.
-        ensures same { (result.0 ≡ one) × (result.1 ≡ other) }
+        // `apart` returns both seats unchanged, the second one without its witnesses (it has none).
+        ensures same { (result.0 ≡ one) × (result.1 ≡ lone other) }
         // The two seats have different numbers, and hold no drive in common. These two facts are
         // true of any two seats of a table, whatever other threads do.
         ensures numbers { one.view.number ≢ other.view.number }
@@ -49,17 +49,14 @@ impl HoldTable {
         // drive's word. Then the other seat holds this drive, or has made at least two steps.
         ensures found { FoundHolder one.view other.view other.made × FoundHolder other.view one.view one.made }
     {
+        let HoldSeat { mut seat, number } = one;
         let HoldSeat {
-            seat: first,
-            number,
-        } = one;
-        let HoldSeat {
-            mut seat,
+            seat: second,
             number: other_number,
         } = other;
-        self.table.shared.join_seat::<Gather>(&mut seat, first);
+        self.table.shared.join_seat::<Invite>(&mut seat, second);
         let found = self.table.shared.load::<Compares>(&mut seat, drive);
-        let second = self.table.shared.split_seat::<Part>(&mut seat);
+        let second = self.table.shared.split_seat::<Dismiss>(&mut seat);
         let one = HoldSeat { seat, number };
         let other = HoldSeat {
             seat: second,
@@ -73,7 +70,7 @@ impl HoldTable {
         requires company { company.old.table_id ≡ self.now }
         requires next { IsSeatAt self.now next }
         ensures same { company.new.table_id ≡ self.now }
-        ensures more { shown self.now company.new.me.0 ≡ next ∷ shown self.now company.old.me.0 }
+        ensures more { group_views company.new.me.0 ≡ next.view ∷ group_views company.old.me.0 }
     {
         let HoldSeat { seat, number: _ } = next;
         self.table.shared.join_seat::<Gather>(company, seat);
@@ -83,7 +80,7 @@ impl HoldTable {
     fn gathered(&self, mut seats: Vec<HoldSeat>) -> Seat<(), SeatGroup>
         requires seats { All (λ s. IsSeatAt self.now s) seats.items }
         ensures same { result.table_id ≡ self.now }
-        ensures gathered { shown self.now result.me.0 ≡ seats.items }
+        ensures gathered { group_views result.me.0 ≡ views_of seats.items }
     {
         let (_, mut company) = self.table.shared.load_new_seat::<Enters>(0);
         while let Some(next) = seats.pop() {

@@ -13,7 +13,8 @@ pub struct PlainLines<'a>(pub &'a str);
 
 impl Display for PlainLines<'_> {
     // output: A `PlainLines` wraps a text. For each character of this text, the `PlainLines` prints
-    // the character that `plain_line_char` returns.
+    // the character that `plain_line_char` returns. No clause says when printing fails, or what it
+    // has printed then.
 
     ghost output = { λ p. Some (plain_lines p.0.now) };
 

@@ -23,7 +23,8 @@ pub fn plain(text: &str) -> PlainBytes<'_>
 impl Display for PlainBytes<'_> {
     // output: `utf8_chunks` divides the bytes that a `PlainBytes` holds into valid UTF-8 and
     // invalid sequences. For each character of valid UTF-8, the `PlainBytes` prints the character
-    // that `plain_char` returns. For each invalid sequence, the `PlainBytes` prints one `?`.
+    // that `plain_char` returns. For each invalid sequence, the `PlainBytes` prints one `?`. No
+    // clause says when printing fails, or what it has printed then.
 
     ghost output = { λ p. Some (printable p.0.now) };
 

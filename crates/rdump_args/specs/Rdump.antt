@@ -1,5 +1,5 @@
 -- The limits of the arguments of `rdump`. Public contracts cite it.
-use Rattle.std.specs.Prelude.{◌≡◌, ◌≤◌, ◌<◌, ◌*◌, ℕ, Bool, true, Option, None, Some, IfSome, MatchOption, IsSome, ⊤, length}
+use Rattle.std.specs.Prelude.{◌≡◌, ◌≤◌, ◌<◌, ◌*◌, ℕ, List, [], ◌∷◌, Bool, true, Option, None, Some, IfSome, MatchOption, IsSome, IsNone, ⊤, length, codes}
 use Rattle.std.specs.Borrow.{Bor}
 use Rattle.std.specs.Duration.{as_nanos}
 use Rattle.std.specs.declared.time.Duration.{Duration}
@@ -11,10 +11,11 @@ use Rattle.rmt_wire.specs.declared.argument.TheConstants.{ARGUMENT_LIMIT}
 use Rattle.rmt_wire.specs.declared.limits.TheConstants.{NUMBER_LIMIT}
 use Rattle.rmt_wire.specs.declared.mtio.TheConstants.{MTNOP}
 use Rattle.rdump_args.specs.declared.rdump_line.RdumpLine.{RdumpLine}
-use Rattle.rdump_args.specs.declared.rdump_line.RdumpLine.TheVariants.{Dump, Read, Fetch, Cat, List, Mt, Dates}
+use Rattle.rdump_args.specs.declared.rdump_line.RdumpLine.TheVariants.{Dump, Read, Fetch, Cat, List as Ls, Mt, Dates}
 use Rattle.rdump_args.specs.declared.cat_line.CatLine.{CatLine}
 use Rattle.rdump_args.specs.declared.dump_line.DumpLine.{DumpLine}
 use Rattle.rdump_args.specs.declared.read_line.ReadLine.{ReadLine}
+use Rattle.rdump_args.specs.declared.retry.TheConstants.{MOST_PAUSE, MOST_RETRIES}
 use Rattle.rdump_args.specs.declared.fetch_line.FetchLine.{FetchLine}
 use Rattle.rdump_args.specs.declared.list_line.ListLine.{ListLine}
 use Rattle.rdump_args.specs.declared.list_line.WantedDumps.{WantedDumps}
@@ -31,9 +32,23 @@ IsDatesAsked (Some (name, level)) = IsName name.now × (level ≤ 9)
 abbrev pub IsLimit : ℕ → Option Duration → Type 0
 IsLimit seconds limit = MatchOption limit (seconds ≡ 0) (λ time. (0 < seconds) × (as_nanos time ≡ seconds * 1_000_000_000))
 
--- the numbers of a run are at most `ARGUMENT_LIMIT`
+-- the payload `-`
+abbrev pub IsInput : Text → Type 0
+IsInput payload = payload ≡ codes "-"
+
+-- A folder for standard input, or leave to dump none of its bytes, is given only if the payload is
+-- standard input. There is never both such a folder and a checkpoint.
+abbrev pub IsInputPlace : {X Y : Type 0} → Text → Option X → Option Y → Bool → Type 0
+IsInputPlace payload spool checkpoint allow_empty =
+    (IsSome spool → IsInput payload) × (allow_empty ≡ true → IsInput payload) × (IsSome spool → IsNone checkpoint)
+
+-- The numbers of a run are at most `ARGUMENT_LIMIT`. The failures in a row that are answered by
+-- another attempt, and the pause before it, are within their limits.
 abbrev pub IsDumpLine : DumpLine → Type 0
-IsDumpLine line = (line.level ≤ ARGUMENT_LIMIT) × (line.block ≤ ARGUMENT_LIMIT) × IfSome line.date (λ n. n ≤ ARGUMENT_LIMIT)
+IsDumpLine line =
+    (line.level ≤ ARGUMENT_LIMIT) × (line.block ≤ ARGUMENT_LIMIT) × IfSome line.date (λ n. n ≤ ARGUMENT_LIMIT)
+    × IsInputPlace line.payload.now line.spool line.checkpoint line.allow_empty
+    × IfSome line.retry (λ n. (0 < n) × (n ≤ MOST_RETRIES)) × (as_nanos line.pause ≤ MOST_PAUSE * 1_000_000_000)
 
 -- a device that a request can name
 abbrev pub IsReadLine : ReadLine → Type 0
@@ -44,18 +59,18 @@ abbrev pub IsFetchLine : FetchLine → Type 0
 IsFetchLine line = IsDevice line.device.now
 
 -- There is never both a length and a catalog. If the payload has to be whole, there is one of them.
-abbrev pub IsOneGiven : {X : Type 0} → Option ℕ → Option X → Bool → Type 0
-IsOneGiven (Some length) (Some catalog) is_partial = ⊥
-IsOneGiven (Some length) None is_partial = Unit {0}
-IsOneGiven None (Some catalog) is_partial = Unit {0}
-IsOneGiven None None is_partial = is_partial ≡ true
+unfoldable pub IsOneGiven : {X : Type 0} → Option ℕ → List X → Bool → Type 0
+IsOneGiven (Some length) (catalog ∷ more) is_partial = ⊥
+IsOneGiven (Some length) [] is_partial = Unit {0}
+IsOneGiven None (catalog ∷ more) is_partial = Unit {0}
+IsOneGiven None [] is_partial = is_partial ≡ true
 
 -- There is a path, the level is one that a dump can have, and the numbers are at most
 -- `ARGUMENT_LIMIT`. The length of the payload is known from one source at most.
 abbrev pub IsCatLine : CatLine → Type 0
 IsCatLine line =
     (0 < length line.paths.items) × IfSome line.level (λ n. n ≤ 9) × IfSome line.date (λ n. n ≤ ARGUMENT_LIMIT)
-    × IfSome line.length (λ n. n ≤ ARGUMENT_LIMIT) × IsOneGiven line.length line.catalog line.is_partial
+    × IfSome line.length (λ n. n ≤ ARGUMENT_LIMIT) × IsOneGiven line.length line.catalogs.items line.is_partial
 
 -- the reels to list are those at the paths, at least one, or those of a drive
 abbrev pub IsListedReels : ListedReels → Type 0
@@ -82,6 +97,6 @@ IsRdumpLine (Dump line) = IsDumpLine line × IsAddress line.to.now
 IsRdumpLine (Read line) = IsReadLine line × IsAddress line.to.now
 IsRdumpLine (Fetch line) = IsFetchLine line × IsAddress line.to.now
 IsRdumpLine (Cat line) = IsCatLine line
-IsRdumpLine (List line) = IsListLine line
+IsRdumpLine (Ls line) = IsListLine line
 IsRdumpLine (Mt line) = IsMtLine line × IsAddress line.to.now
 IsRdumpLine (Dates file asked) = IsDatesAsked asked

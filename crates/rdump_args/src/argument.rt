@@ -10,6 +10,8 @@ pub(crate) enum Form {
     Required,
     /// `--NAME VALUE`.
     Optional,
+    /// `--NAME VALUE`, any number of times.
+    Repeated,
     /// `--NAME VALUE`, and it requires the argument of this name.
     With(&'static str),
     /// `--NAME`, without a value.
@@ -115,6 +117,7 @@ fn arg_of<'a>(alloc: Global, argument: &ArgumentSpec) -> Arg<'a> {
         Form::Flag => flag(alloc, argument),
         Form::Place => valued(alloc, argument),
         Form::Many => valued(alloc, argument).action(ArgAction::Append),
+        Form::Repeated => option(alloc, argument).action(ArgAction::Append),
         _ => option(alloc, argument),
     }
 }

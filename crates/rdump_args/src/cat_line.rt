@@ -21,8 +21,8 @@ pub struct CatLine<'a> {
     pub level: Option<u8>,
     /// The date of the dump in seconds since the beginning of 1970 (UTC), or None for any.
     pub date: Option<u64>,
-    /// The path of the catalog that has the dump, or None to have none.
-    pub catalog: Option<&'a str>,
+    /// The paths of the catalogs, in the order in which they are given. There may be none.
+    pub catalogs: Vec<&'a str>,
     /// The length of the payload in bytes, or None if it is not given. It is given if there is
     /// neither a catalog nor `--partial`, and never with a catalog.
     pub length: Option<u64>,
@@ -60,9 +60,9 @@ pub(crate) fn cat_in<'a>(
 {
     let level = level_in(matches.get_str("level"))?;
     let date = date_in(matches.get_str("date"))?;
-    let catalog = matches.get_str("catalog");
+    let catalogs = catalogs_in(alloc, matches)?;
     let is_partial = is_given(matches, "partial");
-    let length = length_in(matches.get_str("length"), catalog, is_partial)?;
+    let length = length_in(matches.get_str("length"), &catalogs, is_partial)?;
     let paths = match matches.get_strs("path") {
         Some(paths) => paths_of(alloc, paths)?,
         None => return Err(ArgumentFault::Missing(NO_REEL)),
@@ -72,7 +72,7 @@ pub(crate) fn cat_in<'a>(
         name: matches.get_str("fs"),
         level,
         date,
-        catalog,
+        catalogs,
         length,
         is_partial,
     })
@@ -91,21 +91,33 @@ fn paths_of<'a>(alloc: Global, paths: &[&'a str]) -> Result<Vec<&'a str>, Argume
     }
 }
 
+/// Returns the paths of the catalogs that clap's matches name. Fails if an allocation fails.
+fn catalogs_in<'a>(alloc: Global, matches: &ArgMatches<'a>) -> Result<Vec<&'a str>, ArgumentFault> {
+    let Some(paths) = matches.get_strs("catalog") else {
+        return Ok(Vec::new(alloc));
+    };
+    match Vec::from_slice(alloc, paths) {
+        Ok(paths) => Ok(paths),
+        Err(_) => Err(ArgumentFault::OutOfMemory),
+    }
+}
+
 /// Returns the length in a text, if there is a text. Fails if it is no number, if there is a catalog
 /// too, or if there is neither of these and the payload has to be whole.
+#[tactic(auto, unfolding(crate::specs::Rdump::IsOneGiven))]
 fn length_in(
     text: Option<&str>,
-    catalog: Option<&str>,
+    catalogs: &[&str],
     is_partial: bool,
 ) -> Result<Option<u64>, ArgumentFault>
     ensures number { IfOk result (λ length. IfSome length (λ n. n ≤ ARGUMENT_LIMIT)) }
-    ensures one { IfOk result (λ length. IsOneGiven length catalog.entry is_partial) }
+    ensures one { IfOk result (λ length. IsOneGiven length catalogs.now is_partial) }
 {
-    match (text, catalog) {
-        (None, None) if !is_partial => Err(ArgumentFault::Missing(NO_LENGTH)),
+    match (text, catalogs) {
+        (None, []) if !is_partial => Err(ArgumentFault::Missing(NO_LENGTH)),
         (None, _) => Ok(None),
-        (Some(_), Some(_)) => Err(ArgumentFault::Conflict(TWO_LENGTHS)),
-        (Some(text), None) => match number_of(text) {
+        (Some(_), [_, ..]) => Err(ArgumentFault::Conflict(TWO_LENGTHS)),
+        (Some(text), []) => match number_of(text) {
             Some(length) => Ok(Some(length)),
             None => Err(ArgumentFault::Value(BAD_LENGTH)),
         },
@@ -150,8 +162,8 @@ pub(crate) static CAT_ARGUMENTS: [ArgumentSpec; 7] = [
     ArgumentSpec {
         name: "catalog",
         value: "FILE",
-        help: "The catalog that has the dump",
-        form: Form::Optional,
+        help: "A catalog; if several are given, only one may have lines of the dump",
+        form: Form::Repeated,
         missing: "",
     },
     ArgumentSpec {

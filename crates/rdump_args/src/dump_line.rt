@@ -1,19 +1,23 @@
 //! The arguments of `rdump dump`.
 ghost use Rattle.std.specs.Prelude.{◌≤◌, IfOk, IfSome};
-ghost use Rattle.address.specs.Address.{IsAddress};
-ghost use Rattle.rdump_args.specs.Rdump.{IsDumpLine};
+ghost use Rattle.rdump_args.specs.Rdump.{IsInputPlace, IsRdumpLine};
 ghost use Rattle.rmt_wire.specs.declared.argument.TheConstants.{ARGUMENT_LIMIT};
 
 use crate::argument::{ArgumentSpec, Form, is_given, value_in};
 use crate::drive::address_in;
 use crate::fault::ArgumentFault;
+use crate::rdump_line::RdumpLine;
+use crate::retry::{pause_of, retry_of};
 use crate::timeout::timeout_of;
 use clap::ArgMatches;
 use rmt_wire::argument::number_of;
 use std::time::Duration;
 
-/// The parsed arguments of `rdump dump`. Whether a run can have this device, name and numbers is
-/// not checked here; each number is 0 to 9223372036854775807.
+/// The payload that stands for standard input.
+pub const STANDARD_INPUT: &str = "-";
+
+/// The parsed arguments of `rdump dump`. Whether a run can have this device, name, level, block size
+/// and date is not checked here; each of these numbers is 0 to 9223372036854775807.
 #[derive(Clone, Copy, Debug)]
 pub struct DumpLine<'a> {
     /// The address that the server listens at: a host and a port, or `unix:` and a path.
@@ -26,8 +30,14 @@ pub struct DumpLine<'a> {
     pub fs: &'a str,
     /// The level of the dump.
     pub level: u64,
-    /// The path of the payload.
+    /// The path of the payload, or `STANDARD_INPUT`.
     pub payload: &'a str,
+    /// The path of the folder that standard input is read into, or None to take that of `dumpdates`.
+    /// It is given only if the payload is standard input and there is no checkpoint.
+    pub spool: Option<&'a str>,
+    /// Whether standard input may be without a byte. It is true only if the payload is standard
+    /// input.
+    pub allow_empty: bool,
     /// The size of a block in bytes.
     pub block: u64,
     /// The path of the dumpdates file.
@@ -42,6 +52,11 @@ pub struct DumpLine<'a> {
     pub update: bool,
     /// Whether each attempt first looks at the reel, and never writes on a reel of another dump.
     pub protect: bool,
+    /// How many failures in a row are answered by another attempt, up to `MOST_RETRIES`, or None to
+    /// ask the operator.
+    pub retry: Option<u32>,
+    /// How long to wait before such an attempt, up to `MOST_PAUSE` seconds.
+    pub pause: Duration,
 }
 
 /// The message for a level that is not a number.
@@ -55,35 +70,72 @@ const BAD_BLOCK: &str =
 const BAD_DATE: &str =
     "invalid value for '--date <SECONDS>': a date is 0 to 253402300799, in digits";
 
+/// The message for arguments about standard input, if something else is dumped.
+const INPUT_ALONE: &str = "--spool and --allow-empty are given with --payload - only";
+
+/// The message if standard input has two places to be kept in.
+const TWO_PLACES: &str = "--spool or --checkpoint is given, and not both";
+
 /// Returns the command line of `rdump dump` in clap's matches. Fails if the address is not valid,
-/// or if an argument that must be a number is not one.
-pub(crate) fn dump_in<'a>(matches: &ArgMatches<'a>) -> Result<DumpLine<'a>, ArgumentFault>
-    ensures { IfOk result (λ line. IsDumpLine line × IsAddress line.to.now) }
+/// if an argument that must be a number is not one, or if an argument is given that the payload
+/// rules out.
+pub(crate) fn dump_in<'a>(matches: &ArgMatches<'a>) -> Result<RdumpLine<'a>, ArgumentFault>
+    ensures { IfOk result IsRdumpLine }
 {
     let to = address_in(matches)?;
     let timeout = timeout_of(matches.get_str("timeout"))?;
+    let retry = retry_of(matches.get_str("retry"))?;
+    let pause = pause_of(matches.get_str("pause"))?;
+    let payload = value_in(matches, "payload");
+    let checkpoint = matches.get_str("checkpoint");
+    let allow_empty = is_given(matches, "allow-empty");
+    let spool = spool_of(matches.get_str("spool"), payload, checkpoint, allow_empty)?;
     match numbers_in(
         value_in(matches, "level"),
         value_in(matches, "block"),
         matches.get_str("date"),
     ) {
-        Ok((level, block, date)) => Ok(DumpLine {
+        Ok((level, block, date)) => Ok(RdumpLine::Dump(DumpLine {
             to,
             device: value_in(matches, "device"),
             timeout,
             fs: value_in(matches, "fs"),
             level,
-            payload: value_in(matches, "payload"),
+            payload,
+            spool,
+            allow_empty,
             block,
             dumpdates: value_in(matches, "dumpdates"),
             date,
-            checkpoint: matches.get_str("checkpoint"),
+            checkpoint,
             catalog: matches.get_str("catalog"),
             update: is_given(matches, "update"),
             protect: is_given(matches, "protect"),
-        }),
+            retry,
+            pause,
+        })),
         Err(fault) => Err(fault),
     }
+}
+
+/// Returns the folder that standard input is read into, if one is given. Fails if a folder is given,
+/// or that there may be no byte, and the payload is not standard input. Fails if a folder and a
+/// checkpoint are given.
+fn spool_of<'a>(
+    spool: Option<&'a str>,
+    payload: &str,
+    checkpoint: Option<&str>,
+    allow_empty: bool,
+) -> Result<Option<&'a str>, ArgumentFault>
+    ensures { IfOk result (λ spool. IsInputPlace payload.now spool checkpoint.entry allow_empty) }
+{
+    if payload != STANDARD_INPUT && (spool.is_some() || allow_empty) {
+        return Err(ArgumentFault::Missing(INPUT_ALONE));
+    }
+    if spool.is_some() && checkpoint.is_some() {
+        return Err(ArgumentFault::Conflict(TWO_PLACES));
+    }
+    Ok(spool)
 }
 
 /// Returns the numbers in these texts: the level, the size of a block, and the date if one is
@@ -119,7 +171,7 @@ fn date_in(text: Option<&str>) -> Option<Option<u64>>
 }
 
 /// The arguments of `rdump dump`.
-pub(crate) static DUMP_ARGUMENTS: [ArgumentSpec; 13] = [
+pub(crate) static DUMP_ARGUMENTS: [ArgumentSpec; 17] = [
     ArgumentSpec::TO,
     ArgumentSpec::DEVICE,
     ArgumentSpec::TIMEOUT,
@@ -140,9 +192,23 @@ pub(crate) static DUMP_ARGUMENTS: [ArgumentSpec; 13] = [
     ArgumentSpec {
         name: "payload",
         value: "FILE",
-        help: "What is dumped",
+        help: "What is dumped; - is standard input, and ./- a file of that name",
         form: Form::Required,
         missing: "--payload is required",
+    },
+    ArgumentSpec {
+        name: "spool",
+        value: "DIR",
+        help: "The folder that standard input is read into [default: that of --dumpdates]",
+        form: Form::Optional,
+        missing: "",
+    },
+    ArgumentSpec {
+        name: "allow-empty",
+        value: "",
+        help: "Dump standard input also if it has no byte",
+        form: Form::Flag,
+        missing: "",
     },
     ArgumentSpec {
         name: "block",
@@ -191,6 +257,20 @@ pub(crate) static DUMP_ARGUMENTS: [ArgumentSpec; 13] = [
         value: "",
         help: "Write on no reel that another dump, or anyone else, has written",
         form: Form::Flag,
+        missing: "",
+    },
+    ArgumentSpec {
+        name: "retry",
+        value: "TIMES",
+        help: "Answer up to this many failures in a row by another attempt, 1 to 1000000",
+        form: Form::Optional,
+        missing: "",
+    },
+    ArgumentSpec {
+        name: "pause",
+        value: "SECONDS",
+        help: "How long to wait before such an attempt, 0 to 86400 [default: 60]",
+        form: Form::With("retry"),
         missing: "",
     },
 ];

@@ -50,11 +50,12 @@ pub enum RdumpLine<'a> {
 ///
 /// - `dump --to ADDRESS --device D [--timeout SECONDS] --fs NAME --level L --payload FILE --block
 ///   BYTES --dumpdates FILE [--date SECONDS] [--checkpoint FILE] [--catalog FILE] [--update]
-///   [--protect]`
+///   [--protect] [--retry TIMES [--pause SECONDS]]`; with `--payload -` also `[--spool DIR]` and
+///   `[--allow-empty]`, and not both `--spool` and `--checkpoint`
 /// - `read --to ADDRESS --device D [--timeout SECONDS] --out FILE`
 /// - `fetch --to ADDRESS --device D [--timeout SECONDS] --into FOLDER [--catalog FILE]`
-/// - `cat [--catalog FILE] [--length BYTES] [--fs NAME] [--level LEVEL] [--date SECONDS]
-///   FILE|FOLDER...`; one of `--catalog` and `--length` is given, and not both
+/// - `cat [--catalog FILE]... [--length BYTES] [--partial] [--fs NAME] [--level LEVEL] [--date
+///   SECONDS] FILE|FOLDER...`; one of these three is given, and not both of the first two
 /// - `ls FILE|FOLDER... [--dumpdates FILE [--blocks N]] [--catalog FILE [--fs NAME] [--level LEVEL]
 ///   [--date SECONDS]]`
 /// - `ls --to ADDRESS --device D [--timeout SECONDS] [--dumpdates FILE [--blocks N]] [--catalog FILE
@@ -84,7 +85,10 @@ pub fn rdump_args<'a, S: AsStr>(alloc: Global, arguments: &'a [S]) -> Result<Rdu
     // most 9. The date and the length, if given, are at most 9223372036854775807.
     //
     // For `dump`, the level, the block size and the date, if given, are at most
-    // 9223372036854775807.
+    // 9223372036854775807. The number of failures in a row that are answered by another attempt, if
+    // given, is 1 to 1000000, and the pause before such an attempt is at most 86400 seconds. A folder
+    // for standard input is given only if the payload is `-`, and never with a checkpoint. That
+    // standard input may be without a byte is given only if the payload is `-`.
     //
     // If the arguments of `dates` contain a name and a level, both are valid in an entry of
     // dumpdates.
@@ -188,7 +192,7 @@ fn named_in<'a>(
     ensures { IfOk result IsRdumpLine }
 {
     match name {
-        "dump" => dump_in(matches).map(RdumpLine::Dump),
+        "dump" => dump_in(matches),
         "read" => read_in(matches).map(RdumpLine::Read),
         "fetch" => fetch_in(matches).map(RdumpLine::Fetch),
         "cat" => cat_in(alloc, matches).map(RdumpLine::Cat),

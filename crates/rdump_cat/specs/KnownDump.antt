@@ -1,5 +1,5 @@
 -- The dump of a catalog that `rdump cat` restores. Public contracts cite it.
-use Rattle.std.specs.Prelude.{◌≡◌, ℕ, List, Option, Some, None}
+use Rattle.std.specs.Prelude.{◌≡◌, List, Some, None}
 use Rattle.dump_run.specs.DumpId.{PlainId}
 use Rattle.catalog.specs.DumpLines.{PlainFinished}
 use Rattle.catalog.specs.Run.{Begins, HasNone, IsFinishedBy, IsRunIn}

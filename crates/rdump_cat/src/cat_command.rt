@@ -1,17 +1,19 @@
 //! The command `rdump cat`.
+use crate::catalog_files::read_catalogs;
 use crate::dumps::{dumps_of, print_dumps};
 use crate::file_shelf::FileShelf;
+use crate::knowing::{KnownTwice, catalog_of};
 use crate::known_dump::{finished_line, wanted_of};
 use crate::known_parts::parts_of;
 use crate::outcome::{status_of, status_of_parts};
 use crate::report::{
-    print_changed, print_gaps, print_no_volume, print_not_known, print_refusal, print_unreadable,
-    print_unwritten,
+    print_changed, print_gaps, print_known_twice, print_no_dump, print_no_volume, print_not_known,
+    print_refusal, print_unreadable, print_unwritten,
 };
 use crate::watched::Watched;
 use exit_status::ExitStatus;
 use rdump_args::CatLine;
-use rdump_list::{ListSystem, ReelPath, ReelPaths, read_catalog};
+use rdump_list::{ListSystem, ReelPath, ReelPaths};
 use restore::{Refusal, RestoreFault, Wanted, restore, restore_partial};
 use rmt_wire::Counted;
 use std::alloc::AllocError;
@@ -23,7 +25,7 @@ use std::io::{self, Write};
 ///
 /// With a catalog, the reels must have all volumes of a dump that the catalog has as finished, and
 /// the sum of each must be that of the line in force. Other reels of the dump are set aside, each
-/// named on standard error.
+/// named on standard error. Of several catalogs only one may have lines of the dump.
 ///
 /// With `is_partial` it writes what the reels have, with zero bytes for each block that is missing,
 /// and prints the numbers of these blocks. It then never succeeds. The length is that with which
@@ -34,8 +36,9 @@ use std::io::{self, Write};
 ///
 /// - `Success` if the whole payload was written. Also if the reader of standard output closed it
 ///   before: the reels were checked, and the reader wanted no more.
-/// - `StartupError` if a file cannot be read, the catalog is not valid, the files have volumes of
-///   more than one dump that is wanted, an allocation fails, or standard output cannot be written.
+/// - `StartupError` if a file cannot be read, a catalog is not valid, the files have volumes of more
+///   than one dump that is wanted, two catalogs have lines of the dump, an allocation fails, or
+///   standard output cannot be written.
 /// - `Abnormal` if a volume is missing, or the files are not those of one dump with a payload of
 ///   this length, or the catalog does not have the dump as finished. Nothing was written then. Also
 ///   if a file was changed after it was checked, and for each payload of which parts may be missing.
@@ -77,10 +80,12 @@ fn cat<R: ListSystem, T: Write + Drop>(
         paths: &paths,
         is_partial: line.is_partial,
     };
-    match line.catalog {
-        Some(path) => run.by_catalog(path, &wanted, terminal),
-        None if line.is_partial => run.write_parts(&wanted, line.length, terminal),
-        None => run.by_length(&wanted, terminal),
+    if !line.catalogs.is_empty() {
+        run.by_catalogs(&line.catalogs, &wanted, terminal)
+    } else if line.is_partial {
+        run.write_parts(&wanted, line.length, terminal)
+    } else {
+        run.by_length(&wanted, terminal)
     }
 }
 
@@ -111,15 +116,15 @@ impl<R: ListSystem> CatRun<'_, R> {
         Ok(status)
     }
 
-    /// Writes the payload of the dump that the reels have, if the catalog at this path knows it.
-    /// Returns the exit status. Fails if an allocation fails.
-    fn by_catalog<T: Write + Drop>(
+    /// Writes the payload of the dump that the reels have, if one of the catalogs at these paths, and
+    /// only one, has lines of it. Returns the exit status. Fails if an allocation fails.
+    fn by_catalogs<T: Write + Drop>(
         &self,
-        path: &str,
+        paths: &[&str],
         wanted: &Wanted<'_>,
         terminal: Option<T>,
     ) -> Result<ExitStatus, AllocError> {
-        let Some(catalog) = read_catalog(self.rt, path)? else {
+        let Some(catalogs) = read_catalogs(self.rt, paths)? else {
             return Ok(ExitStatus::StartupError);
         };
         let Some(dumps) = dumps_of(self.rt, self.paths, wanted)? else {
@@ -130,14 +135,22 @@ impl<R: ListSystem> CatRun<'_, R> {
             [id] => id,
             dumps => return print_dumps(self.rt, dumps),
         };
+        let number = match catalog_of(&catalogs, id) {
+            Ok(Some(number)) => number,
+            Ok(None) => return Ok(print_no_dump(self.rt, paths)),
+            Err(KnownTwice { first, second }) => {
+                return print_known_twice(self.rt, paths[first], paths[second], id);
+            }
+        };
+        let (catalog, path) = (&catalogs[number], paths[number]);
         if self.is_partial {
-            return match parts_of(&catalog, id) {
+            return match parts_of(catalog, id) {
                 Ok(wanted) => self.write_parts(&wanted, Some(wanted.length), terminal),
                 Err(why) => Ok(print_not_known(self.rt, path, why)),
             };
         }
-        match finished_line(&catalog, id) {
-            Ok(line) => self.write_payload(&wanted_of(&catalog, id, line), terminal),
+        match finished_line(catalog, id) {
+            Ok(line) => self.write_payload(&wanted_of(catalog, id, line), terminal),
             Err(why) => Ok(print_not_known(self.rt, path, why)),
         }
     }

@@ -1,9 +1,11 @@
 //! Error messages on standard error. If one cannot be printed, the exit status is the same.
 use crate::known_dump::NotKnown;
+use dump_run::DumpId;
 use exit_status::ExitStatus;
 use printable::plain;
-use rdump_list::ReelPath;
+use rdump_list::{ReelPath, push_dated_id};
 use restore::{Gap, Refusal};
+use std::alloc::AllocError;
 use std::io::{self, ErrorKind};
 
 /// What to do if reels that would be needed are not there.
@@ -73,6 +75,14 @@ pub(crate) fn print_no_volume<R: Eprint>(rt: &R) -> ExitStatus {
     ExitStatus::Abnormal
 }
 
+/// Prints that none of the catalogs at these paths has lines of the dump, and returns `Abnormal`.
+pub(crate) fn print_no_dump<R: Eprint>(rt: &R, paths: &[&str]) -> ExitStatus {
+    for path in paths {
+        print_not_known(rt, path, NotKnown::NoDump);
+    }
+    ExitStatus::Abnormal
+}
+
 /// Prints why the catalog at this path is of no use for the dump, and returns `Abnormal`.
 pub(crate) fn print_not_known<R: Eprint>(rt: &R, path: &str, why: NotKnown) -> ExitStatus {
     let path = plain(path);
@@ -81,6 +91,25 @@ pub(crate) fn print_not_known<R: Eprint>(rt: &R, path: &str, why: NotKnown) -> E
         NotKnown::NotFinished => eprintln!(rt; "rdump: {path}: the dump is not finished"),
     };
     ExitStatus::Abnormal
+}
+
+/// Prints that the catalogs at these paths have lines of one dump, and returns `StartupError`. Fails
+/// if an allocation fails.
+pub(crate) fn print_known_twice<R: AllocGlobal + Eprint>(
+    rt: &R,
+    first: &str,
+    second: &str,
+    id: &DumpId,
+) -> Result<ExitStatus, AllocError> {
+    let mut text = Vec::new(rt.alloc());
+    push_dated_id(&mut text, id)?;
+    if let Ok(text) = str::from_utf8(&text) {
+        let (first, second) = (plain(first), plain(second));
+        let _ = eprintln!(rt;
+            "rdump: {first} and {second} have lines of one dump, {text}: leave out one of them"
+        );
+    }
+    Ok(ExitStatus::StartupError)
 }
 
 /// Prints why a file could not be read.

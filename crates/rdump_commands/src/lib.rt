@@ -6,8 +6,7 @@
 //! command is a function of its own: `run_mt` and `run_dates` of this crate, `run_dump` of
 //! `rdump_dump`, `run_read` and `run_fetch` of `rdump_read`, `run_cat` of `rdump_cat`, and
 //! `run_ls` of `rdump_list`.
-//! `run_client` is a dump from its client on. `ClientSystem` is the part of the runtime that they
-//! use.
+//! `ClientSystem` is the part of the runtime that they use.
 #![tactic(auto)]
 
 mod dates_command;
@@ -18,6 +17,6 @@ pub use dates_command::run_dates;
 pub use mt_command::run_mt;
 pub use program::{rdump, run_arguments};
 pub use rdump_cat::run_cat;
-pub use rdump_dump::{run_client, run_dump};
+pub use rdump_dump::run_dump;
 pub use rdump_read::{run_fetch, run_read};
 pub use rdump_system::ClientSystem;

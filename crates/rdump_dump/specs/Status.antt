@@ -1,4 +1,4 @@
--- The exit status of a dump. Public contracts cite it.
+-- The exit status of a dump.
 use Rattle.std.specs.Prelude.{◌≡◌, ◌⊎◌}
 use Rattle.dump_client.specs.Standing.{Standing}
 use Rattle.dump_client.specs.declared.stage.Stage.TheVariants.{Finished}
@@ -8,7 +8,3 @@ use Rattle.exit_status.specs.declared.status.ExitStatus.TheVariants.{Success, Ab
 -- the status of a dump that has begun: `Success` only if its run is finished
 abbrev pub IsDumpStatus : Standing → ExitStatus → Type 0
 IsDumpStatus at status = ((at.stage ≡ Finished) × (status ≡ Success)) ⊎ (status ≡ Abnormal)
-
--- the status at the end of a dump: `Success` if everything is done, `Abnormal` if something is not
-abbrev pub IsEndStatus : ExitStatus → Type 0
-IsEndStatus status = (status ≡ Success) ⊎ (status ≡ Abnormal)

@@ -1,73 +1,57 @@
 //! The catalog in which a dump enters its beginning, its counted volumes and its end.
-use crate::dump_start::DumpStart;
-use catalog::{CatalogFault, CatalogLine, SumLine};
+
+use crate::unentered::Unentered;
+use catalog::{Catalog, CatalogLine, SumLine};
 use dump_client::{Blocks, Client, VolumeCount};
-use printable::{CLEAR, plain};
+use printable::plain;
 use rdump_files::ReplacedFile;
-use rdump_net::CountBook;
 use rdump_sums::{
     EnterFault, Entered, begun_line_of, enter_begun, enter_finished, enter_line, finished_line_of,
-    sum_line_of,
+    has_count, sum_line_of,
 };
-use rdump_system::{ClientSystem, NO_CATALOG};
-use std::fmt::{self, Display, Formatter};
-use std::io::{self, ErrorKind, Write};
+use rdump_system::ClientSystem;
+use std::fmt::{self, Display, Formatter, Write as _};
 use volume_sum::Summed;
 
-/// The catalog of a dump, if it keeps one. If a line of a volume cannot be entered, it is printed
-/// whole on standard error, and the dump goes on. On a terminal the line of progress is cleared
-/// first.
+/// The catalog of a dump. If a line cannot be entered, the dump goes on.
 #[derive(Drop)]
-pub(crate) struct CatalogFile<'a, R: ClientSystem, T> {
+pub(crate) struct CatalogFile<'a, R: ClientSystem> {
     rt: &'a R,
-    path: Option<&'a str>,
-    start: Option<&'a DumpStart>,
-    terminal: Option<T>,
+    path: &'a str,
+    /// How many bytes the payload has.
+    bytes: u64,
+    /// How many lines say that the dump began. None if nothing is to be entered any more.
     begun: Option<usize>,
+    /// Whether everything that the catalog is to have of the dump so far was entered.
     has_all: bool,
 }
 
-impl<'a, R: ClientSystem, T: Write> CatalogFile<'a, R, T> {
-    /// Makes the catalog of a dump that keeps none.
-    pub(crate) fn none(rt: &'a R) -> Self {
+impl<'a, R: ClientSystem> CatalogFile<'a, R> {
+    /// Makes the catalog at this path, in which nothing is entered yet, for a payload of so many
+    /// bytes.
+    pub(crate) fn new(rt: &'a R, path: &'a str, bytes: u64) -> Self {
         CatalogFile {
             rt,
-            path: None,
-            start: None,
-            terminal: None,
+            path,
+            bytes,
             begun: None,
             has_all: true,
         }
     }
 
-    /// Makes the catalog at this path, in which nothing is entered yet.
-    pub(crate) fn new(rt: &'a R, path: &'a str, start: &'a DumpStart, terminal: Option<T>) -> Self {
-        CatalogFile {
-            rt,
-            path: Some(path),
-            start: Some(start),
-            terminal,
-            begun: None,
-            has_all: true,
-        }
-    }
-
-    /// Enters that the dump begins. Returns false, after it printed why, if that fails.
-    pub(crate) fn begin<B: Blocks>(&mut self, client: &Client<B>) -> bool {
-        let (Some(path), Some(start)) = (self.path, self.start) else {
-            return true;
-        };
-        let mut file = ReplacedFile::of_catalog(self.rt, self.rt.alloc(), path);
-        let line = begun_line_of(client, start.bytes);
-        match enter_begun(self.rt.alloc(), &mut file, line) {
+    /// Enters that the dump begins.
+    pub(crate) fn begin<B: Blocks>(&mut self, client: &Client<B>) -> Result<(), Unentered> {
+        let mut file = self.file();
+        match enter_begun(
+            self.rt.alloc(),
+            &mut file,
+            begun_line_of(client, self.bytes),
+        ) {
             Ok(begun) => {
                 self.begun = Some(begun);
-                true
+                Ok(())
             }
-            Err(fault) => {
-                report_unentered(self.rt, path, fault, file.failure(), "");
-                false
-            }
+            Err(fault) => Err(unentered(fault, file)),
         }
     }
 
@@ -76,10 +60,32 @@ impl<'a, R: ClientSystem, T: Write> CatalogFile<'a, R, T> {
         self.begun = Some(begun);
     }
 
-    /// Adds nothing to the catalog from now on.
-    pub(crate) fn close(&mut self) {
-        self.begun = None;
-        self.has_all = false;
+    /// Goes on with a dump that is resumed and has counted volumes. Exactly one line must say that
+    /// it began, and each counted volume must have a line in force. Otherwise prints what is
+    /// missing, and enters nothing.
+    pub(crate) fn resume<B: Blocks>(&mut self, catalog: &Catalog, client: &Client<B>) {
+        let begun = catalog.begun(client.run().id());
+        if report_missing(self.rt, catalog, client) {
+            self.has_all = false;
+        } else if begun != 1 {
+            let path = plain(self.path);
+            let _ = eprintln!(self.rt;
+                "rdump: {path}: {begun} dumps of this name, level and dates began: nothing is entered"
+            );
+            self.has_all = false;
+        } else {
+            self.begun = Some(begun);
+        }
+    }
+
+    /// The path of the catalog.
+    pub(crate) fn path(&self) -> &'a str {
+        self.path
+    }
+
+    /// Whether more can be entered, and nothing is missing.
+    pub(crate) fn is_open(&self) -> bool {
+        self.has_all && self.begun.is_some()
     }
 
     /// Whether everything that the catalog is to have of the dump so far was entered.
@@ -87,139 +93,169 @@ impl<'a, R: ClientSystem, T: Write> CatalogFile<'a, R, T> {
         self.has_all
     }
 
-    /// Enters the line of a volume in the catalog at this path. If that fails, prints why and the
-    /// line.
-    fn add(&mut self, path: &str, begun: usize, line: SumLine) {
-        let mut file = ReplacedFile::of_catalog(self.rt, self.rt.alloc(), path);
+    /// Enters the line of a volume that was counted. Returns what was not entered, and why.
+    pub(crate) fn enter<B: Blocks>(
+        &mut self,
+        client: &Client<Summed<B>>,
+        count: VolumeCount,
+    ) -> Result<(), Missing> {
+        let Some(begun) = self.begun else {
+            return Ok(());
+        };
+        let Some(line) = sum_line_of(client, count) else {
+            self.has_all = false;
+            return Err(Missing::Sum(count.volume));
+        };
+        let mut file = self.file();
         let line = CatalogLine::Volume(line);
         match enter_line(self.rt.alloc(), &mut file, begun, &line) {
-            Ok(Entered::Added | Entered::There) => {}
-            Ok(Entered::Another | Entered::Uncovered) => self.report_another(path),
+            Ok(entered) => self.note(entered),
             Err(fault) => {
-                self.fail();
-                report_unentered(self.rt, path, fault, file.failure(), ": add this line:");
-                print_line(self.rt, &line);
+                self.has_all = false;
+                Err(Missing::Line(unentered(fault, file), line))
             }
         }
     }
 
     /// Enters that the dump of a finished client is finished, unless a line of it is missing or its
-    /// payload changed. Prints why, if that fails.
-    pub(crate) fn finish<B: Blocks>(&mut self, client: &Client<B>) {
-        let (Some(path), Some(start), Some(begun)) = (self.path, self.start, self.begun) else {
-            return;
+    /// payload changed. Returns what was not entered, and why.
+    pub(crate) fn finish<B: Blocks>(
+        &mut self,
+        client: &Client<B>,
+        has_changed: bool,
+    ) -> Result<(), Missing> {
+        let Some(begun) = self.begun else {
+            return Ok(());
         };
-        if !self.has_all || start.has_changed() {
+        let line = finished_line_of(client, self.bytes);
+        let (true, false, Some(line)) = (self.has_all, has_changed, line) else {
             self.has_all = false;
-            return;
-        }
-        let Some(line) = finished_line_of(client, start.bytes) else {
-            self.has_all = false;
-            return;
+            return Ok(());
         };
-        let mut file = ReplacedFile::of_catalog(self.rt, self.rt.alloc(), path);
+        let mut file = self.file();
         match enter_finished(self.rt.alloc(), &mut file, begun, client, line) {
-            Ok(Entered::Added | Entered::There) => {}
-            Ok(Entered::Another) => self.report_another(path),
-            Ok(Entered::Uncovered) => {
-                self.fail();
-                let path = plain(path);
-                let _ = eprintln!(self.rt; "rdump: {path}: a counted volume has no line in force");
-            }
+            Ok(entered) => self.note(entered),
             Err(fault) => {
-                self.fail();
-                report_unentered(self.rt, path, fault, file.failure(), "");
+                self.has_all = false;
+                Err(Missing::End(unentered(fault, file)))
             }
         }
     }
 
-    /// Prints that another run began the dump anew. Adds nothing from now on.
-    fn report_another(&mut self, path: &str) {
-        self.fail();
-        self.close();
-        let path = plain(path);
-        let _ = eprintln!(self.rt;
-            "rdump: {path}: another dump of this name, level and dates began: nothing more is entered"
-        );
+    /// Returns the file of the catalog.
+    fn file(&self) -> ReplacedFile<'a, R> {
+        ReplacedFile::of_catalog(self.rt, self.rt.alloc(), self.path)
     }
 
-    /// Notes that something was not entered, and clears the line of progress.
-    fn fail(&mut self) {
-        self.has_all = false;
-        if let Some(terminal) = &mut self.terminal {
-            let _ = terminal.write_all(CLEAR);
-        }
-    }
-}
-
-impl<'a, R: ClientSystem, T: Write, B: Blocks> CountBook<Summed<B>> for CatalogFile<'a, R, T> {
-    ghost entered = { λ _ _. ⊥ };
-
-    fn enter(&mut self, client: &Client<Summed<B>>, count: VolumeCount) {
-        let (Some(path), Some(begun)) = (self.path, self.begun) else {
-            return;
-        };
-        match sum_line_of(client, count) {
-            Some(line) => self.add(path, begun, line),
-            None => {
-                self.fail();
-                let volume = count.volume;
-                let _ = eprintln!(self.rt; "rdump: volume {volume} has no sum");
+    /// Notes what became of a line. If another run began the dump anew, nothing more is entered.
+    fn note(&mut self, entered: Entered) -> Result<(), Missing> {
+        match entered {
+            Entered::Added | Entered::There => Ok(()),
+            Entered::Another => {
+                self.has_all = false;
+                self.begun = None;
+                Err(Missing::Another)
+            }
+            Entered::Uncovered => {
+                self.has_all = false;
+                Err(Missing::Uncovered)
             }
         }
     }
 }
 
-/// Prints why a line was not entered in the catalog at this path, with the system's error if the
-/// file failed, and then `more`.
-fn report_unentered<R: Eprint>(
-    rt: &R,
-    path: &str,
-    fault: EnterFault,
-    failure: Option<&io::Error>,
-    more: &str,
-) {
-    let path = plain(path);
-    let _ = match (fault, failure) {
-        (EnterFault::Catalog(CatalogFault::OutOfMemory), _) => {
-            eprintln!(rt; "rdump: {path}: out of memory{more}")
-        }
-        (EnterFault::Catalog(fault), _) => {
-            eprintln!(rt; "rdump: {path}: {NO_CATALOG}: {fault}{more}")
-        }
-        (_, Some(error)) if error.kind() == ErrorKind::OutOfMemory => {
-            eprintln!(rt; "rdump: {path}: out of memory{more}")
-        }
-        (_, Some(error)) => eprintln!(rt; "rdump: {path}: {error}{more}"),
-        (_, None) => { eprintln!(rt; "rdump: {path}: it could not be read or replaced{more}") }
-    };
+/// What is missing in the catalog of a dump, and why.
+#[derive(Drop)]
+pub(crate) enum Missing {
+    /// All from now on: another run began the dump anew.
+    Another,
+    /// The end of the dump: a counted volume has no line in force.
+    Uncovered,
+    /// The line of this volume, which has no sum.
+    Sum(u32),
+    /// This line of a volume.
+    Line(Unentered, CatalogLine),
+    /// The end of the dump.
+    End(Unentered),
 }
 
-/// Prints the line of a volume on standard error. Allocates nothing.
-fn print_line<R: Eprint>(rt: &R, line: &CatalogLine) {
-    let CatalogLine::Volume(line) = line else {
-        return;
-    };
-    let label = line.label();
-    let (sum, name, level) = (Hex(line.sum()), label.name(), label.level());
-    let (date, since) = (label.date(), label.since());
-    let (volume, first) = (label.volume(), label.first());
-    let (blocks, block_bytes, bytes) = (line.blocks(), line.block_bytes(), line.bytes());
-    let _ = eprintln!(rt;
-        "{sum}  {name} level {level} date {date} since {since} volume {volume} first {first}, \
-         {blocks} blocks of {block_bytes} bytes, {bytes} bytes"
-    );
-}
-
-/// The bytes of a sum, as hexadecimal digits.
-#[derive(Clone, Copy)]
-struct Hex<'a>(&'a [u8; 32]);
-
-impl Display for Hex<'_> {
+impl Display for Missing {
     fn fmt<W: fmt::Write>(&self, f: &mut Formatter<W>) -> fmt::Result {
-        for byte in self.0 {
+        match self {
+            Missing::Another => f.write_str(
+                "another dump of this name, level and dates began: nothing more is entered",
+            ),
+            Missing::Uncovered => f.write_str("a counted volume has no line in force"),
+            Missing::Sum(volume) => write!(f, "volume {volume} has no sum"),
+            Missing::Line(why, CatalogLine::Volume(line)) => {
+                write!(f, "{why}: add this line:\n{}", Spelled(line))
+            }
+            Missing::Line(why, _) | Missing::End(why) => write!(f, "{why}"),
+        }
+    }
+}
+
+/// The line of a volume, as a catalog has it.
+#[derive(Clone, Copy)]
+struct Spelled<'a>(&'a SumLine);
+
+impl Display for Spelled<'_> {
+    fn fmt<W: fmt::Write>(&self, f: &mut Formatter<W>) -> fmt::Result {
+        let (line, label) = (self.0, self.0.label());
+        for byte in line.sum() {
             write!(f, "{byte:02x}")?;
         }
-        Ok(())
+        let (name, level, date, since) = (label.name(), label.level(), label.date(), label.since());
+        let (volume, first, blocks) = (label.volume(), label.first(), line.blocks());
+        let (block_bytes, bytes) = (line.block_bytes(), line.bytes());
+        write!(
+            f,
+            "  {name} level {level} date {date} since {since} volume {volume} first {first}, \
+             {blocks} blocks of {block_bytes} bytes, {bytes} bytes"
+        )
     }
+}
+
+/// Returns why a line was not entered in this file.
+fn unentered<R: ClientSystem>(fault: EnterFault, file: ReplacedFile<'_, R>) -> Unentered {
+    Unentered {
+        fault,
+        failure: file.into_failure(),
+    }
+}
+
+/// Prints which counted volumes of a resumed dump have no line in force in the catalog. Returns
+/// whether there are any.
+fn report_missing<R: ClientSystem, B: Blocks>(
+    rt: &R,
+    catalog: &Catalog,
+    client: &Client<B>,
+) -> bool {
+    let (mut first, mut last, mut is_missing) = (0, 0, false);
+    for count in client.counted() {
+        if has_count(catalog, client.run(), *count) {
+            report_range(rt, first, last);
+            first = 0;
+        } else {
+            is_missing = true;
+            if first == 0 {
+                first = count.volume;
+            }
+            last = count.volume;
+        }
+    }
+    report_range(rt, first, last);
+    is_missing
+}
+
+/// Prints that these volumes have no line, if `first` is not 0.
+fn report_range<R: ClientSystem>(rt: &R, first: u32, last: u32) {
+    if first == 0 {
+        return;
+    }
+    let _ = if first == last {
+        eprintln!(rt; "no sum of volume {first}")
+    } else {
+        eprintln!(rt; "no sum of volumes {first} to {last}")
+    };
 }

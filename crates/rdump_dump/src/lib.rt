@@ -1,23 +1,23 @@
 //! The command `rdump dump` dumps a payload to a server, and uses the files that the dump needs.
 //!
-//! `run_dump` is the whole command: it checks the payload, the dumpdates file, the catalog, the
-//! clock, the limits of a run and the checkpoint file, in this order, and then has a client dump.
-//! `run_client` is a dump from its client on.
+//! `run_dump` is the whole command. A `Start` has what is found out before the first attempt: the
+//! payload, the dumpdates file, the catalog, the clock, the limits of a run and the checkpoint file
+//! are checked in this order, and a `StartFault` says why a dump cannot begin. Then `dump_to_end`
+//! of `rdump_net` dumps. An `Attendant` observes it: it keeps the checkpoint, the catalog and the
+//! entry in dumpdates, prints what happens, and answers the questions.
 #![tactic(auto)]
 
 mod asking;
+mod attendant;
 mod catalog_file;
-mod catalog_start;
-mod checkpoint_dump;
-mod checkpoint_file;
 mod dump_command;
-mod dump_end;
-mod dump_start;
-mod dumping;
-mod protecting;
-mod reporting_peer;
 mod run_limit;
+mod setback;
 mod shell_word;
+mod start;
+mod start_fault;
+mod unattended;
+mod unentered;
+mod warnings;
 
 pub use dump_command::run_dump;
-pub use dumping::run_client;

@@ -8,17 +8,15 @@ use rdump_args::{DumpLine, dump_error};
 use rdump_system::{ClientSystem, report_no_memory};
 use std::alloc::{AllocError, Global};
 
-/// Prints which limit of a run the arguments violate, for a dump of this date, and returns the exit
-/// status.
+/// Prints which limit of a run the arguments violate, and returns the exit status.
 pub(crate) fn refuse_run<R: ClientSystem>(
     rt: &R,
     line: &DumpLine<'_>,
-    date: u64,
     fault: RunFault,
 ) -> ExitStatus
     ensures { result ≡ StartupError }
 {
-    let Ok(error) = error_of(rt.alloc(), line, date, fault) else {
+    let Ok(error) = error_of(rt.alloc(), line, fault) else {
         return report_no_memory(rt);
     };
     let _ = error.print(rt);
@@ -29,22 +27,16 @@ pub(crate) fn refuse_run<R: ClientSystem>(
 fn error_of(
     alloc: Global,
     line: &DumpLine<'_>,
-    date: u64,
     fault: RunFault,
 ) -> Result<clap::Error, AllocError> {
-    let limit = limit_of(alloc, line, date, fault)?;
+    let limit = limit_of(alloc, line, fault)?;
     let text = format!(in alloc; "{fault}: {limit}")?;
     dump_error(alloc, text.as_str())
 }
 
 /// Returns the argument that violates a limit, and the limit.
-fn limit_of(
-    alloc: Global,
-    line: &DumpLine<'_>,
-    date: u64,
-    fault: RunFault,
-) -> Result<String, AllocError> {
-    let (level, block) = (line.level, line.block);
+fn limit_of(alloc: Global, line: &DumpLine<'_>, fault: RunFault) -> Result<String, AllocError> {
+    let (level, date, block) = (line.level, line.date.unwrap_or(0), line.block);
     match fault {
         RunFault::BadDevice => {
             String::from_str(

@@ -1,6 +1,6 @@
 -- The queries of `rdump dates`, their output, and the exit status. A plain value is what contracts
 -- use for a value that the code has in memory. Public contracts cite it.
-use Rattle.std.specs.Prelude.{◌≡◌, ◌⊎◌, ℕ, true, false, List, [], ◌∷◌, ◌++◌, Option, Some, None, Result, Ok, Err, codes, decimal, option_map}
+use Rattle.std.specs.Prelude.{◌≡◌, ◌⊎◌, ℕ, true, false, List, [], ◌∷◌, ◌++◌, Option, Some, None, codes, decimal, option_map}
 use Rattle.std.specs.Borrow.{Bor}
 use Rattle.dumpdates.specs.Dates.{base_of}
 use Rattle.dumpdates.specs.Entry.{DatesEntry}
@@ -55,11 +55,3 @@ IsStatusPrinted contents text wanted out out' status =
 abbrev pub IsDates : {W : Type 0} → (W → Option (List ℕ)) → List ℕ → Option AskedDump → Counting W → Counting W → ExitStatus → Type 0
 IsDates contents file asked out out' status =
     (text : List ℕ) × (wanted : ExitStatus) × IsAnswer file asked text wanted × IsStatusPrinted contents text wanted out out' status
-
--- The result is the base date of a name at a level, and nothing was printed. Or the file is not a
--- dumpdates file, and its fault was printed.
-abbrev pub IsBaseDate : {W : Type 0} → (W → Option (List ℕ)) → List ℕ → AskedDump → Counting W → Counting W → Result ℕ DatesFault → Type 0
-IsBaseDate contents file asked out out' (Ok base) =
-    ((entries : List DatesEntry) × SpellsDates file entries × (base ≡ base_of entries asked.name asked.level)) × (out' ≡ out)
-IsBaseDate contents file asked out out' (Err fault) =
-    HasDatesFault file fault × ((status : ExitStatus) × IsStatusPrinted contents (dates_fault_text fault) StartupError out out' status)

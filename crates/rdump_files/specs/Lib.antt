@@ -1,10 +1,11 @@
 -- In reading order, each by itself: Payload (the payload and its run); ResumedDump (a dump that is
--- resumed); Dates (the dumpdates file); WholeFile, Updating (entering a dump in it). Then Entering
--- (once the dump is complete); Left (what an interrupted run leaves).
+-- resumed); Dates (the dumpdates file); WholeFile, Updating (entering a dump in it), Keeping (a
+-- checkpoint); Left (what an interrupted run leaves); Spool (a stream that is kept).
 pub mod ResumedDump
 pub mod Dates
-pub mod Entering
+pub mod Keeping
 pub mod Left
 pub mod Payload
+pub mod Spool
 pub mod Updating
 pub mod WholeFile

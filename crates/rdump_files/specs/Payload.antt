@@ -7,10 +7,8 @@ use Rattle.tape.specs.Medium.MediumCall.{Len, ReadAt}
 use Rattle.tape.specs.declared.medium.MediumFailed.{MediumFailed}
 use Rattle.dump_run.specs.Blocks.{cut_blocks}
 use Rattle.dump_run.specs.declared.blocks.SourceFailed.{SourceFailed}
-use Rattle.dump_run.specs.Run.{PlainRun, plain_run, IsFirstBroken}
+use Rattle.dump_run.specs.Run.{PlainRun, plain_run}
 use Rattle.rdump_args.specs.declared.dump_line.DumpLine.{DumpLine}
-use Rattle.rdump_files.specs.declared.payload.DumperFault.{DumperFault}
-use Rattle.rdump_files.specs.declared.payload.DumperFault.TheVariants.{Run, OutOfMemory}
 
 -- how many blocks of this size hold this many bytes, or 0 if the size is 0
 abbrev pub blocks_for : ℕ → ℕ → ℕ
@@ -82,11 +80,6 @@ run_in_blocks line date since blocks = plain_run line.device.now line.fs.now lin
 -- the run that the arguments describe, for a payload of this many bytes
 abbrev pub line_run : DumpLine → ℕ → ℕ → ℕ → PlainRun
 line_run line date since bytes = run_in_blocks line date since (blocks_for line.block bytes)
-
--- the fault is the first violated limit of the run, or a failed allocation
-abbrev pub IsRefusedRun : PlainRun → DumperFault → Type 0
-IsRefusedRun run (Run fault) = IsFirstBroken fault run
-IsRefusedRun run OutOfMemory = Unit {0}
 
 -- the payload has the block size and the number of blocks of the run
 abbrev pub IsRunsPayload : {M : Type 0} → PlainRun → FiledPayload M → Type 0

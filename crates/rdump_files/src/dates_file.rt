@@ -4,7 +4,7 @@ ghost use Rattle.std.specs.Prelude.{◌≡◌, ◌⊎◌, ◌+◌, ◌++◌, ◌
 ghost use Rattle.dumpdates.specs.Text.{written};
 ghost use Rattle.exit_status.specs.declared.status.ExitStatus.TheVariants.{StartupError, Success};
 ghost use Rattle.dumpdates.specs.declared.fault.DatesFault.TheVariants.{OutOfMemory};
-ghost use Rattle.rdump_files.specs.Dates.{IsBaseDate, IsDates, IsStatusPrinted, asked_dump, dates_fault_text, plain_asked};
+ghost use Rattle.rdump_files.specs.Dates.{IsDates, IsStatusPrinted, dates_fault_text, plain_asked};
 
 use arrayvec::ArrayString;
 use dumpdates::{Dates, DatesFault};
@@ -60,33 +60,6 @@ pub fn dates<W: Write>(
     match asked {
         None => print_dates(out, &dates),
         Some((name, level)) => print_base(out, dates.base(name, level)),
-    }
-}
-
-/// Returns the base date of a dump with this name and level: the date of the latest dump with this
-/// name and a lower level. The date is in seconds since 1970, UTC. It is 0 if there is no such
-/// dump. `file` is the bytes of a dumpdates file.
-///
-/// If these are not a dumpdates file, or an allocation fails, prints the fault as `dates` does and
-/// returns it.
-pub fn base_date<W: Write>(
-    alloc: Global,
-    file: &[u8],
-    name: &str,
-    level: u8,
-    out: &mut Counted<W>,
-) -> Result<u64, DatesFault>
-    // If the call succeeds, it prints nothing, and returns the base date, computed from the file's
-    // entries. If the file is bad or an allocation fails, the call prints and returns the fault. If
-    // a write fails, only a beginning of the fault's text is printed.
-    ensures { IsBaseDate W.contents file.now (asked_dump name.now level) out.old out.new result }
-{
-    match Dates::read(alloc, file) {
-        Ok(dates) => Ok(dates.base(name, level)),
-        Err(fault) => {
-            print_fault(out, fault);
-            Err(fault)
-        }
     }
 }
 

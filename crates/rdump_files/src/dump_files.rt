@@ -129,12 +129,17 @@ pub struct DumpFiles {
 }
 
 impl DumpFiles {
-    /// Makes a list of a dump's files, which at first contains only the payload. The payload is
-    /// open and has this metadata. Fails only if an allocation fails.
-    pub fn new(alloc: Global, payload: &Metadata) -> io::Result<DumpFiles> {
-        let mut known = Vec::new(alloc);
-        known.push((DumpFile::Payload, FileId::of(payload)))?;
-        Ok(DumpFiles { known })
+    /// Makes a list of a dump's files, which is empty at first.
+    pub fn new(alloc: Global) -> DumpFiles {
+        DumpFiles {
+            known: Vec::new(alloc),
+        }
+    }
+
+    /// Adds the payload to the list. It is open and has this metadata. Returns the file that it is
+    /// too, if any was added before. Fails only if an allocation fails.
+    pub fn add_payload(&mut self, found: &Metadata) -> io::Result<Option<SameFile>> {
+        self.add(DumpFile::Payload, Some(FileId::of(found)))
     }
 
     /// Adds the dumpdates file at this path to the list. If the file is to be updated, also adds

@@ -1,13 +1,8 @@
 //! A file on the file system that is replaced as a whole.
-ghost use Rattle.std.specs.Prelude.{◌≡◌, IfOk};
-ghost use Rattle.dump_run.specs.Checkpoint.{checkpoint_text};
-
 use crate::files::read_if_there;
 use crate::new_file::{Form, NewFile, find_unknown_new};
 use crate::{FileFailed, WholeFile};
-use dump_run::{Run, VolumeCount, push_checkpoint};
-use rdump_net::Keeper;
-use std::alloc::{AllocError, Global};
+use std::alloc::Global;
 use std::fs::File;
 use std::io::{self, ErrorKind};
 use std::rt::Files;
@@ -78,6 +73,12 @@ impl<'a, R: Files<File = File> + Clock> ReplacedFile<'a, R> {
     /// Returns the error of the last call that failed, or none if no call failed.
     pub fn failure(&self) -> Option<&io::Error> {
         self.failure.as_ref()
+    }
+
+    /// Returns the error of the last call that failed, or none if no call failed. Drops the rest.
+    pub fn into_failure(self) -> Option<io::Error> {
+        let ReplacedFile { failure, .. } = self;
+        failure
     }
 
     /// Tries to create the new file, and returns the error if the file cannot be created now.
@@ -209,30 +210,4 @@ impl<'a, R: Files<File = File> + Clock> WholeFile for ReplacedFile<'a, R> {
             Err(error) => Err(self.fail(error)),
         }
     }
-}
-
-impl<'a, R: Files<File = File> + Clock> Keeper for ReplacedFile<'a, R> {
-    ghost puts = { λ _ _. ⊥ };
-
-    ghost can_fail = { λ _. Unit {0} };
-
-    /// Replaces the file by the text of the checkpoint.
-    fn keep(&mut self, run: &Run, counts: &[VolumeCount]) -> bool {
-        match text_of(self.alloc, run, counts) {
-            Ok(text) => self.replace(&text).is_ok(),
-            Err(error) => {
-                self.fail(error.into());
-                false
-            }
-        }
-    }
-}
-
-/// Returns the text of a checkpoint. Fails only if an allocation fails.
-fn text_of(alloc: Global, run: &Run, counts: &[VolumeCount]) -> Result<Vec<u8>, AllocError>
-    ensures { IfOk result (λ text. text.items ≡ checkpoint_text run.now counts.now) }
-{
-    let mut text = Vec::new(alloc);
-    push_checkpoint(run, counts, &mut text)?;
-    Ok(text)
 }

@@ -8,7 +8,7 @@ ghost use Rattle.dump_run.specs.Run.{AreOfOneDump};
 ghost use Rattle.rdump_files.specs.Payload.{IsRunsPayload};
 ghost use Rattle.rdump_files.specs.ResumedDump.{IsResumedDumpFault};
 
-use crate::{Gauge, PayloadFile, Shown};
+use crate::PayloadFile;
 use dump_client::{Client, Run};
 use dump_run::Checkpoint;
 use std::alloc::Global;
@@ -26,20 +26,18 @@ pub enum ResumedDumpFault {
 
 /// Makes the client that resumes a dump from its checkpoint. It has the run and the counts of the
 /// checkpoint, and is finished if these count all blocks. `payload` is the payload of `run`. The
-/// checkpoint must be of the same dump as `run`: only the dates may differ. The gauge gets the
-/// number of blocks, and shows each block that is read. The client's source sums each volume if
-/// `is_summed` is true.
+/// checkpoint must be of the same dump as `run`: only the dates may differ. The client's source sums
+/// each volume if `is_summed` is true.
 ///
 /// Returns `OfAnother` if the checkpoint is of another dump, and `OutOfMemory` if an allocation
 /// fails.
-pub fn resume_dump<M: Medium + Drop, G: Gauge + Drop>(
+pub fn resume_dump<M: Medium + Drop>(
     alloc: Global,
     run: &Run,
     checkpoint: Checkpoint,
     payload: PayloadFile<M>,
-    mut gauge: G,
     is_summed: bool,
-) -> Result<Client<Summed<Shown<PayloadFile<M>, G>>>, ResumedDumpFault>
+) -> Result<Client<Summed<PayloadFile<M>>>, ResumedDumpFault>
     requires { IsRunsPayload run.now payload }
     // Returns a client that has the run and the counts of the checkpoint. A count records a volume
     // that was written whole. The date and the base date of the client's run also come from the
@@ -51,7 +49,7 @@ pub fn resume_dump<M: Medium + Drop, G: Gauge + Drop>(
     // If the client's counts cover all blocks of the run, the client is in the stage `Finished`.
     // Otherwise the client is in the stage `Ready`.
     ensures over { IfOk result (λ c. IsOver c.at.run c.at.counts c.at) }
-    // The client takes its blocks from the payload.
+    // The client takes its blocks from the payload. No clause says what `is_summed` does.
     ensures source { IfOk result (λ c. c.source ≡ payload) }
     // If the call fails, the checkpoint belongs to another dump, or the error is `OutOfMemory`.
     ensures refused { IfErr result (IsResumedDumpFault checkpoint.run run.now) }
@@ -59,12 +57,7 @@ pub fn resume_dump<M: Medium + Drop, G: Gauge + Drop>(
     if !checkpoint.run().is_same_dump(run) {
         return Err(ResumedDumpFault::OfAnother);
     }
-    gauge.begin(checkpoint.run().blocks());
-    let shown = Shown {
-        source: payload,
-        gauge,
-    };
-    let source = Summed::new(shown, is_summed);
+    let source = Summed::new(payload, is_summed);
     match Client::from_checkpoint(alloc, checkpoint, source) {
         Ok(client) => Ok(client),
         Err(_) => Err(ResumedDumpFault::OutOfMemory),

@@ -9,4 +9,4 @@ pub mod Keeping
 pub mod Looking
 pub mod Offline
 pub mod Printing
-pub mod Booking
+pub mod Observed

@@ -1,7 +1,7 @@
 -- Texts that are printed one after the other, and the lines of a dump.
 use Rattle.std.specs.Io.KnownBytes.{Appends}
 use Rattle.std.proofs.KnownBytes.{Appends-nil, Appends-trans}
-use Rattle.rdump_net.proofs.Words.{◌≡◌, ◌+◌, ℕ, List, [], ◌++◌, Bool, true, false, Option, Some, None, refl, sym, ap, subst, ◌∙◌, min, take, drop, length, append-nil, append_assoc, arith, take-append-add, drop-append_seam, take-append-le, take_min, Counting, HasRisen, VolumeCount, Standing, checkpoint_of, AttemptFault, IsPrinted, DumpLines, IsPrefixOf, IsConcluded, IsFinish, IsRound, count_lines, failure_lines, question_line, Conclusion, none, counted, failed, asked}
+use Rattle.rdump_net.proofs.Words.{◌≡◌, ◌+◌, ℕ, List, [], ◌++◌, Bool, true, false, Option, Some, None, refl, sym, ap, subst, ◌∙◌, min, take, drop, length, append-nil, append_assoc, arith, take-append-add, drop-append_seam, take-append-le, take_min, Counting, HasRisen, VolumeCount, Standing, checkpoint_of, AttemptFault, IsPrinted, DumpLines, IsPrefixOf, IsBetween, IsConcluded, IsFinish, IsReplied, IsRound, count_lines, failure_lines, question_line, Conclusion, none, counted, failed, asked}
 use Rattle.rdump_net.specs.declared.conclusion.Conclusion.TheVariants as ends
 
 module _ {W : Type 0} (contents : W → Option (List ℕ)) where
@@ -59,6 +59,11 @@ module _ {W : Type 0} {contents : W → Option (List ℕ)} where
   pub last_alone : {at : Standing} {out out' : Counting W} {end : Conclusion} → IsFinish contents at out out' end → IsConcluded contents at.counts at out out' end
   last_alone h = record { text = []; last = h.0; whole = h.1; lines = none; printed = h.2; ends = h.3 }
 
+  -- lines, after which the dump is left
+  pub left_after : {first : List VolumeCount} {at : Standing} {out out' : Counting W} (text : List ℕ) → IsBetween at.stage → DumpLines first at.counts text → IsPrinted contents text out out' true
+      → IsConcluded contents first at out out' ends.Left
+  left_after text between lines printed = record { text = text; last = []; whole = true; lines = lines; printed = rw append-nil printed; ends = (refl, between) }
+
 module _ {W : Type 0} (contents : W → Option (List ℕ)) where
   -- a part, and then another
   pub round_after : (first : List VolumeCount) (counts : List VolumeCount) (at : Standing) (a b c : Counting W) (text : List ℕ) (result : Option Conclusion)
@@ -73,3 +78,12 @@ module _ {W : Type 0} (contents : W → Option (List ℕ)) where
     printed = rw append_assoc (printed_both contents text (h.text ++ h.last) a b c h.whole printed h.printed);
     ends = h.ends;
   }
+
+  -- an answer was taken, and nothing was printed
+  pub replied : (counts : List VolumeCount) (at : Standing) (out : Counting W) (result : Option Conclusion) → at.counts ≡ counts → IsReplied at result → IsRound contents counts at out out result
+  replied counts at out None e h = ([], subst (λ l. DumpLines counts l []) (sym e) none, nothing_printed contents out)
+  replied counts at out (Some ends.Left) e h = left_after [] h (subst (λ l. DumpLines counts l []) (sym e) none) (nothing_printed contents out)
+  replied counts at out (Some ends.Complete) e h = absurd h
+  replied counts at out (Some ends.Abandoned) e h = absurd h
+  replied counts at out (Some ends.PrintFailed) e h = absurd h
+  replied counts at out (Some ends.Unkept) e h = absurd h

@@ -61,9 +61,14 @@ module _ {B P : Type 0} {holds : B → List (List ℕ) → Type 0} {allows : Sta
         };
   }
 
-  -- a call of the client while the peer is left alone
+  -- calls of the client while the peer is left alone
   pub by_itself : {c c' : ClientHeld B} {p : P} → TalksAlone holds c c' → TalksOver holds allows tells c c' p p
-  by_itself {p = p} call = one_call call.same (alone tells p) (λ fed h. let one = call.talked fed h in (one.0, step_weaker (λ payload h. h) (λ at h. absurd h) one.1, one.2))
+  by_itself {p = p} call = record {
+    same = call.same;
+    talked = λ fed h.
+        let one = call.talked fed h in
+        record { passed = []; later = one.0; talks = talks_weaker (λ payload t. t) (λ at t. absurd t) one.1; keeps = one.2; logs = alone tells p };
+  }
 
   -- the connection is ended
   pub hung_up : {c : ClientHeld B} {p q : P} → Logs tells p q [] → TalksOver holds allows tells c c p q
@@ -89,5 +94,9 @@ module _ {B : Type 0} {holds : B → List (List ℕ) → Type 0} where
       → ((fed : List ℕ) → HasFed c fed → HasFed c' fed) → c'.source ≡ c.source → TalksAlone holds c c'
   answered_alone answer result h fed e = record {
     same = λ payload told. subst (λ s. holds s payload) (sym e) told;
-    talked = λ old k. (old, answers answer result h, fed old k);
+    talked = λ old k. (old, one_more none (answers answer result h), fed old k);
   }
+
+  -- the client is left as it is
+  pub left_alone : {c : ClientHeld B} → TalksAlone holds c c
+  left_alone = record { same = λ payload told. told; talked = λ old k. (old, none, k) }

@@ -12,7 +12,8 @@ pub use Rattle.dump_client.specs.declared.stage.Progress.{Progress}
 pub use Rattle.dump_client.specs.declared.stage.Stage.{Stage}
 pub use Rattle.exit_status.specs.declared.status.ExitStatus.{ExitStatus}
 pub use Rattle.remote_tape.proofs.Basics.{alone, both, is_fault}
-pub use Rattle.rdump_net.specs.Booking.{EntersOn}
+pub use Rattle.rdump_net.specs.Observing.{AreTold, DumpEvent, HasTold, LogsOn, Observes, counts_of, kept_of, told_of}
+pub use Rattle.rdump_net.specs.Observing.DumpEvent.{Completed, Counted, Entered, Forgotten, Kept}
 pub use Rattle.refusals.specs.declared.request.TapeRequest.{TapeRequest}
 pub use Rattle.remote_tape.specs.Call.{IsCalled, IsPeerCall, plain_number, plain_result, wanted_by}
 pub use Rattle.remote_tape.specs.Calls.{CallsFollow, Extends, Finishes, Stops, is_done}
@@ -24,8 +25,8 @@ pub use Rattle.remote_tape.specs.declared.fault.TapeCause.TheVariants.{NoReply, 
 pub use Rattle.remote_tape.specs.declared.fault.TapeFault.{TapeFault}
 pub use Rattle.remote_tape.specs.declared.mark_search.MarkSearch.{MarkSearch}
 pub use Rattle.rdump_net.specs.Ends.{SinkEnds, SinkKind, copy_ends, copy_kind, sink_ends, sink_kind, stream_ends, stream_kind}
-pub use Rattle.rdump_net.specs.Keeping.{HasKept, HasKeptTo, IsDumpKept, IsKept, IsKeptConclusion, IsKeptUp, IsUnkept, KeptDump, KeptEnds, KeptKind, PutsOn, kept_ends, kept_kind, plain_checkpoint, unkept_line}
-pub use Rattle.rdump_net.specs.Lines.{DumpLines, IsConcluded, IsConclusion, IsDumped, IsFinish, IsPrefixOf, IsRound, conclusion_status, count_line, count_lines, failure_lines, question_line}
+pub use Rattle.rdump_net.specs.Keeping.{HasKept, HasKeptTo, IsDumpKept, IsKept, IsKeptConclusion, IsKeptUp, IsUnkept, KeptDump, KeptEnds, KeptKind, kept_ends, kept_kind, plain_checkpoint, unkept_line}
+pub use Rattle.rdump_net.specs.Lines.{DumpLines, IsConcluded, IsConclusion, IsDumped, IsBetween, IsFinish, IsPrefixOf, IsReplied, IsRound, conclusion_status, count_line, count_lines, failure_lines, question_line}
 pub use Rattle.rdump_net.specs.Lines.DumpLines.{asked, counted, failed, none}
 pub use Rattle.rdump_net.specs.Look.{Fails, Finding, Goes, IsFailedPart, IsLook, IsLookPart, IsRecordKept, LookFails, LookStage, after_read, plain_front, request_at, stage_from, stage_then}
 pub use Rattle.rdump_net.specs.Look.Finding.{Front, Refusal}

@@ -8,12 +8,13 @@ use Rattle.dump_client.specs.Standing.{Standing, checkpoint_of}
 use Rattle.dump_client.specs.Standing.{VolumeCount}
 use Rattle.dump_client.specs.declared.fault.AttemptFault.{AttemptFault}
 use Rattle.dump_client.specs.declared.fault.AttemptFault.TheVariants.{Refused, Botched, ConnectionEnded, ShortWrite, ReelTooSmall, SourceFault, OutOfMemory, CountedReel}
-use Rattle.dump_client.specs.declared.stage.Stage.TheVariants.{Finished}
+use Rattle.dump_client.specs.declared.stage.Stage.{Stage}
+use Rattle.dump_client.specs.declared.stage.Stage.TheVariants.{Ready, Asking, Finished}
 use Rattle.exit_status.specs.declared.status.ExitStatus.{ExitStatus}
 use Rattle.exit_status.specs.declared.status.ExitStatus.TheVariants.{Success, Abnormal}
 use Rattle.rmt_wire.specs.Print.{IsPrinted}
 use Rattle.rdump_net.specs.declared.conclusion.Conclusion.{Conclusion}
-use Rattle.rdump_net.specs.declared.conclusion.Conclusion.TheVariants.{Complete, Abandoned, PrintFailed}
+use Rattle.rdump_net.specs.declared.conclusion.Conclusion.TheVariants.{Complete, Abandoned, Left, PrintFailed}
 
 -- the line of a counted volume: its number, its number of blocks, and its first block
 abbrev pub count_line : VolumeCount → List ℕ
@@ -92,11 +93,19 @@ pub record IsDumped {W : Type 0} (contents : W → Option (List ℕ)) (first : L
   pub printed : IsPrinted contents (text ++ last) out out' whole
   pub ends : IsLast whole at last status
 
+-- the client is between two attempts: the next can start, or waits for an answer
+abbrev pub IsBetween : Stage → Type 0
+IsBetween Ready = ⊤
+IsBetween Asking = ⊤
+IsBetween stage = ⊥
+
 -- How a dump ends, and its last line: complete if the run is finished, abandoned if not,
--- `PrintFailed` if printing failed.
+-- `PrintFailed` if printing failed. A dump that was left has no last line, and its client is between
+-- two attempts.
 abbrev pub IsConclusion : Bool → Standing → List ℕ → Conclusion → Type 0
 IsConclusion true at last Complete = (at.stage ≡ Finished) × (last ≡ complete_line at.counts)
 IsConclusion true at last Abandoned = (at.stage ≢ Finished) × (last ≡ abandoned_line)
+IsConclusion true at last Left = (last ≡ []) × IsBetween at.stage
 IsConclusion false at last PrintFailed = ⊤
 IsConclusion whole at last end = ⊥
 
@@ -129,3 +138,9 @@ IsRound contents first at out out' (Some end) = IsConcluded contents first at ou
 abbrev pub IsFinish : {W : Type 0} → (W → Option (List ℕ)) → Standing → Counting W → Counting W → Conclusion → Type 0
 IsFinish contents at out out' end =
     (last : List ℕ) × (whole : Bool) × IsPrinted contents last out out' whole × IsConclusion whole at last end
+
+-- The observer's answer was taken: the dump goes on (None), or was left between two attempts.
+abbrev pub IsReplied : Standing → Option Conclusion → Type 0
+IsReplied at None = ⊤
+IsReplied at (Some Left) = IsBetween at.stage
+IsReplied at (Some end) = ⊥

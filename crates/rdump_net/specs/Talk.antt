@@ -85,7 +85,7 @@ pub record TalksOver {B P : Type 0} (holds : B → List (List ℕ) → Type 0) (
   pub same : (payload : List (List ℕ)) → holds c.source payload → holds c'.source payload
   pub talked : (fed : List ℕ) → HasFed c fed → HasTalked (holds c.source) allows tells c c' p p' fed
 
--- one call of the client that does not use the peer and starts no attempt
+-- calls of the client that do not use the peer and start no attempt
 pub record TalksAlone {B : Type 0} (holds : B → List (List ℕ) → Type 0) (c c' : ClientHeld B) : Type 0 where
   pub same : (payload : List (List ℕ)) → holds c.source payload → holds c'.source payload
-  pub talked : (fed : List ℕ) → HasFed c fed → (later : List ℕ) × TalkStep (holds c.source) FromNone c.at fed [] c'.at later × HasFed c' later
+  pub talked : (fed : List ℕ) → HasFed c fed → (later : List ℕ) × Talks (holds c.source) FromNone c.at fed [] c'.at later × HasFed c' later

@@ -1,11 +1,13 @@
 //! One attempt of a client, over a connection of its own.
-ghost use Rattle.std.specs.Prelude.{◌≡◌, ℕ, List, OnErr};
+ghost use Rattle.std.specs.Prelude.{◌≡◌, ◌⊎◌, ℕ, false, List, [], OnErr};
 ghost use Rattle.dump_client.specs.Client.{HasFed};
+ghost use Rattle.dump_client.specs.declared.stage.Stage.TheVariants as stages;
 ghost use Rattle.rdump_net.specs.Lines.{IsPrefixOf};
+ghost use Rattle.rdump_net.specs.Observing.{Observes};
 ghost use Rattle.rdump_net.specs.Talk.{FromThis, FromNone, TalksOver};
-ghost use Rattle.rdump_net.specs.declared.attempt.Attempted.TheVariants.{NotStarted};
+ghost use Rattle.rdump_net.specs.declared.attempt.Attempted.TheVariants.{Held, NotStarted};
 
-use crate::Peer;
+use crate::{DumpObserver, Peer};
 use dump_client::{AttemptFault, Blocks, Client, Progress, StartFault, State};
 
 /// How many bytes are received at once, at most.
@@ -24,29 +26,43 @@ pub(crate) enum Attempted {
     Failed(AttemptFault),
     /// The attempt did not start. The client is unchanged.
     NotStarted,
+    /// The attempt may not begin. Nothing has changed.
+    Held,
 }
 
-/// Has a client write its next volume over a new connection, and then closes the connection.
+/// Has a client write its next volume over a new connection, if `may` is true, and then closes the
+/// connection.
 ///
 /// If an attempt is under way, it continues over the open connection; if none is open, the attempt
-/// ends. `text` is the buffer for requests. If the attempt fails, `Peer::attempt_failed` is called.
-pub(crate) fn attempt<B: Blocks, P: Peer>(
+/// ends. `text` is the buffer for requests. If the attempt fails, the observer is told.
+#[tactic(auto, using(crate::proofs::Talking::nothing_said, crate::proofs::Observed::observes_none, crate::proofs::Growing::grown_none))]
+pub(crate) fn attempt<B: Blocks, P: Peer, O: DumpObserver<B, P>>(
     client: &mut Client<B>,
     peer: &mut P,
+    observer: &mut O,
     text: &mut Vec<u8>,
+    may: bool,
 ) -> Attempted
     ensures talks { TalksOver B.holds (FromThis client.old.at) P.tells client.old client.new peer.old peer.new }
-    ensures still { result ≡ NotStarted → client.new.at ≡ client.old.at }
+    ensures still { result ≡ NotStarted → (client.new.at ≡ client.old.at) × (client.old.at.stage ≡ stages.Ready) }
     ensures grows { IsPrefixOf client.old.at.counts client.new.at.counts }
+    // If `may` is false, the call changes neither the client nor the peer. No clause says that
+    // `may` is what `DumpObserver::may_begin` returned.
+    ensures held { may ≡ false → (client.new ≡ client.old) × (peer.new ≡ peer.old) }
+    ensures kept { result ≡ Held → (client.new ≡ client.old) × (may ≡ false) }
+    ensures observed { Observes O.logs O.can_stop observer.old observer.new [] }
 {
+    if !may {
+        return Attempted::Held;
+    }
     let Ok(begun) = begin(client, peer) else {
         return Attempted::NotStarted;
     };
-    let progress = talk(client, peer, text, begun);
+    let progress = talk(client, peer, observer, text, begun);
     peer.hang_up();
     match progress {
         Progress::Failed(fault) => {
-            peer.attempt_failed(fault);
+            observer.failed(peer, fault);
             Attempted::Failed(fault)
         }
         _ => Attempted::Over,
@@ -58,7 +74,7 @@ pub(crate) fn attempt<B: Blocks, P: Peer>(
 #[tactic(auto, using(crate::proofs::Talking::nothing_said))]
 fn begin<B: Blocks, P: Peer>(client: &mut Client<B>, peer: &mut P) -> Result<Progress, StartFault>
     ensures talks { TalksOver B.holds (FromThis client.old.at) P.tells client.old client.new peer.old peer.new }
-    ensures still { OnErr result (client.new.at ≡ client.old.at) }
+    ensures still { OnErr result ((client.new.at ≡ client.old.at) × (client.old.at.stage ≡ stages.Ready)) }
     ensures fed { (bytes : List ℕ) × HasFed client.old bytes }
 {
     if client.state() != State::Ready {
@@ -72,32 +88,36 @@ fn begin<B: Blocks, P: Peer>(client: &mut Client<B>, peer: &mut P) -> Result<Pro
 }
 
 /// Continues an attempt that has begun, unless it ended at once.
-#[tactic(auto, using(crate::proofs::Talking::nothing_said))]
-fn talk<B: Blocks, P: Peer>(
+#[tactic(auto, using(crate::proofs::Talking::nothing_said, crate::proofs::Observed::observes_none))]
+fn talk<B: Blocks, P: Peer, O: DumpObserver<B, P>>(
     client: &mut Client<B>,
     peer: &mut P,
+    observer: &mut O,
     text: &mut Vec<u8>,
     begun: Progress,
 ) -> Progress
-    ensures { TalksOver B.holds FromNone P.tells client.old client.new peer.old peer.new }
+    ensures talks { TalksOver B.holds FromNone P.tells client.old client.new peer.old peer.new }
+    ensures observed { Observes O.logs O.can_stop observer.old observer.new [] }
 {
     match begun {
-        Progress::Send => converse(client, peer, text),
+        Progress::Send => converse(client, peer, observer, text),
         end => end,
     }
 }
 
 /// Sends requests, each after the reply to the one before, until the attempt ends.
-#[tactic(auto, using(crate::proofs::Talking::nothing_said, crate::proofs::Talking::followed))]
-fn converse<B: Blocks, P: Peer>(
+#[tactic(auto, using(crate::proofs::Talking::nothing_said, crate::proofs::Talking::followed, crate::proofs::Observed::observes_none, crate::proofs::Observed::observes_then))]
+fn converse<B: Blocks, P: Peer, O: DumpObserver<B, P>>(
     client: &mut Client<B>,
     peer: &mut P,
+    observer: &mut O,
     text: &mut Vec<u8>,
 ) -> Progress
-    ensures { TalksOver B.holds FromNone P.tells client.old client.new peer.old peer.new }
+    ensures talks { TalksOver B.holds FromNone P.tells client.old client.new peer.old peer.new }
+    ensures observed { Observes O.logs O.can_stop observer.old observer.new [] }
 {
     for _ in 0..u64::MAX {
-        match exchange(client, peer, text) {
+        match exchange(client, peer, observer, text) {
             Progress::Send | Progress::Waiting => {}
             progress => return progress,
         }
@@ -106,29 +126,39 @@ fn converse<B: Blocks, P: Peer>(
 }
 
 /// Sends the next request, if it is time for one, or receives what the peer sends.
-#[tactic(auto, using(crate::proofs::Talking::nothing_said))]
-fn exchange<B: Blocks, P: Peer>(
+#[tactic(auto, using(crate::proofs::Talking::nothing_said, crate::proofs::Observed::observes_none))]
+fn exchange<B: Blocks, P: Peer, O: DumpObserver<B, P>>(
     client: &mut Client<B>,
     peer: &mut P,
+    observer: &mut O,
     text: &mut Vec<u8>,
 ) -> Progress
-    ensures { TalksOver B.holds FromNone P.tells client.old client.new peer.old peer.new }
+    ensures talks { TalksOver B.holds FromNone P.tells client.old client.new peer.old peer.new }
+    ensures observed { Observes O.logs O.can_stop observer.old observer.new [] }
 {
     match client.state() {
-        State::ToSend => ask(client, peer, text),
-        State::Waiting => hear(client, peer),
+        State::ToSend => ask(client, peer, observer, text),
+        State::Waiting => hear(client, peer, observer),
         _ => Progress::Idle,
     }
 }
 
-/// Builds the next request and sends it. If it cannot be sent whole, the client's attempt ends.
-fn ask<B: Blocks, P: Peer>(client: &mut Client<B>, peer: &mut P, text: &mut Vec<u8>) -> Progress
-    ensures { TalksOver B.holds FromNone P.tells client.old client.new peer.old peer.new }
+/// Builds the next request and sends it. If it was sent whole, the observer is told. Otherwise the
+/// client's attempt ends.
+fn ask<B: Blocks, P: Peer, O: DumpObserver<B, P>>(
+    client: &mut Client<B>,
+    peer: &mut P,
+    observer: &mut O,
+    text: &mut Vec<u8>,
+) -> Progress
+    ensures talks { TalksOver B.holds FromNone P.tells client.old client.new peer.old peer.new }
+    ensures observed { Observes O.logs O.can_stop observer.old observer.new [] }
 {
     text.clear();
     match client.next_request(text) {
         Ok(true) => {
             if peer.send(text.as_slice()) {
+                observer.sent(client, text.as_slice());
                 return Progress::Waiting;
             }
             client.ended()
@@ -139,10 +169,14 @@ fn ask<B: Blocks, P: Peer>(client: &mut Client<B>, peer: &mut P, text: &mut Vec<
 }
 
 /// Receives bytes from the peer and feeds them to the client. At the end of the connection, the
-/// client's attempt ends. If the attempt is about to overwrite a label, it calls
-/// `Peer::overwrites`.
-fn hear<B: Blocks, P: Peer>(client: &mut Client<B>, peer: &mut P) -> Progress
-    ensures { TalksOver B.holds FromNone P.tells client.old client.new peer.old peer.new }
+/// client's attempt ends. If the attempt is about to overwrite a label, the observer is told.
+fn hear<B: Blocks, P: Peer, O: DumpObserver<B, P>>(
+    client: &mut Client<B>,
+    peer: &mut P,
+    observer: &mut O,
+) -> Progress
+    ensures talks { TalksOver B.holds FromNone P.tells client.old client.new peer.old peer.new }
+    ensures observed { Observes O.logs O.can_stop observer.old observer.new [] }
 {
     let mut piece = [0; PIECE];
     let count = peer.receive(&mut piece);
@@ -151,7 +185,7 @@ fn hear<B: Blocks, P: Peer>(client: &mut Client<B>, peer: &mut P) -> Progress
     }
     let (progress, found) = client.feed_finding_label(&piece[..count]);
     if let Some(label) = found {
-        peer.overwrites(&label);
+        observer.overwrites(&label);
     }
     progress
 }

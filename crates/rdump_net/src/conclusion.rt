@@ -9,8 +9,10 @@ use exit_status::ExitStatus;
 pub enum Conclusion {
     /// The run is finished, and every line was printed.
     Complete,
-    /// The operator abandoned the dump, and every line was printed.
+    /// The dump was abandoned, and every line was printed.
     Abandoned,
+    /// The observer answered `Leave`: the dump ended at once, and can be resumed.
+    Left,
     /// A line could not be printed.
     PrintFailed,
     /// The checkpoint could not be kept.
@@ -28,4 +30,14 @@ impl Conclusion {
             _ => ExitStatus::Abnormal,
         }
     }
+}
+
+/// How a dump ended, with all that follows its conclusion.
+#[derive(Clone, Copy, Debug, PartialEq, Eq)]
+pub struct DumpEnd {
+    /// How the dump itself ended.
+    pub conclusion: Conclusion,
+    /// The exit status of `rdump dump`: `Success` if the dump is complete, and the catalog,
+    /// dumpdates and the checkpoint are as they are to be. `Abnormal` otherwise.
+    pub status: ExitStatus,
 }

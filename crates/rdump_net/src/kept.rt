@@ -1,44 +1,56 @@
-//! A whole dump, which keeps its checkpoint or none.
+//! A whole dump, with an observer or an operator.
 //!
 //! A count is the record of a volume that was written whole: its number, its first block and its
 //! number of blocks.
-ghost use Rattle.std.specs.Prelude.{◌≡◌, false, drop, length};
-ghost use Rattle.rdump_net.specs.Booking.{EntersOn};
+ghost use Rattle.std.specs.Prelude.{◌≡◌, ◌⊎◌, false};
+ghost use Rattle.rdump_net.specs.Ending.{IsDumpEnded};
 ghost use Rattle.rdump_net.specs.Keeping.{IsDumpKept, IsKeptUp, IsUnkept, kept_ends, kept_kind, plain_checkpoint};
 ghost use Rattle.rdump_net.specs.Lines.{IsDumped};
 ghost use Rattle.rdump_net.specs.Talk.{FromAny, TalksOver};
 ghost use Rattle.rdump_net.specs.declared.conclusion.Conclusion.TheVariants as ends;
 
+use crate::operator::answer;
 use crate::rounds::{finish, round};
-use crate::{Conclusion, CountBook, Keeper, Peer};
-use dump_client::{Blocks, Client, Run, State, VolumeCount};
+use crate::settle::settle;
+use crate::{Conclusion, DumpEnd, DumpObserver, Peer, Reply};
+use dump_client::{Blocks, Client, State, VolumeCount};
 use exit_status::ExitStatus;
 use rmt_wire::{Counted, print_text};
 use std::alloc::Global;
 use std::io::{Read, Write};
 
-/// Stores nothing.
+/// An operator who answers the questions. Nothing is kept.
 #[derive(Drop)]
-struct NoKeeper;
-
-impl Keeper for NoKeeper {
-    ghost puts = { λ _ _. ⊥ };
-
-    ghost can_fail = { λ _. ⊥ };
-
-    fn keep(&mut self, _run: &Run, _counts: &[VolumeCount]) -> bool {
-        true
-    }
+struct Asked<'a, R> {
+    operator: &'a mut R,
 }
 
-/// Enters nothing.
-#[derive(Drop)]
-struct NoBook;
+impl<B: Blocks, P: Peer, R: Read> DumpObserver<B, P> for Asked<'_, R> {
+    ghost logs = { λ _ _. ⊥ };
 
-impl<B: Blocks> CountBook<B> for NoBook {
-    ghost entered = { λ _ _. ⊥ };
+    ghost can_stop = { λ _. ⊥ };
 
-    fn enter(&mut self, _client: &Client<B>, _count: VolumeCount) {}
+    fn counted(&mut self, _client: &Client<B>, _count: VolumeCount) {}
+
+    fn keep(&mut self, _client: &Client<B>) -> bool {
+        true
+    }
+
+    fn answer(&mut self) -> Reply {
+        answer(self.operator)
+    }
+
+    fn complete(&mut self, _client: &Client<B>) -> bool {
+        true
+    }
+
+    fn enter(&mut self, _client: &Client<B>) -> bool {
+        true
+    }
+
+    fn forget(&mut self) -> bool {
+        true
+    }
 }
 
 /// Makes a client write the volumes of its run to a tape server (the peer), over a new connection
@@ -49,8 +61,7 @@ impl<B: Blocks> CountBook<B> for NoBook {
 ///
 /// If an attempt fails, it prints `volume 1 failed: Refused 16`, with the fault's name, and
 /// `retry?`, and reads one line from the operator. After `yes` it tries the volume again; after
-/// anything else it prints `dump abandoned`. If the peer does not let an attempt begin, it prints
-/// `retry?` alone and reads a line too; after `yes` it asks the peer again.
+/// anything else it prints `dump abandoned`.
 ///
 /// Returns the exit status of `rdump dump`: `Success` if the run is finished and every line was
 /// printed, else `Abnormal`. After a write that fails it does nothing more.
@@ -84,92 +95,97 @@ pub fn dump<B: Blocks, P: Peer, R: Read, W: Write>(
     // Otherwise the call returns `Abnormal`.
     ensures printed { IsDumped W.contents client.old.at.counts client.new.at out.old out.new result }
 {
-    let mut keeper = NoKeeper;
-    let end = dump_kept(alloc, client, peer, operator, out, &mut keeper);
+    let mut observer = Asked { operator };
+    let end = dump_to_conclusion(alloc, client, peer, &mut observer, out);
     end.status()
 }
 
-/// Does what `dump` does, and also stores the client's checkpoint with `keeper`.
+/// Makes a client write the volumes of its run to a tape server (the peer), as `dump` does, and does
+/// what follows. The observer is told what happens, keeps the checkpoint, and answers the questions.
 ///
-/// It keeps the checkpoint before the first attempt, and after each count once the count's line is
-/// printed. It keeps nothing for a run that is finished or abandoned at the start, and nothing
-/// after an attempt that counted nothing.
+/// The observer is asked to keep the checkpoint before the first attempt, and after each count once
+/// the count's line is printed. It is not asked for a run that is finished or abandoned at the start,
+/// nor after an attempt that counted nothing. If it fails, this prints `checkpoint not written`,
+/// starts no further attempt, and concludes as `Unkept`.
 ///
-/// If the keeper fails, it prints `checkpoint not written`, starts no further attempt, and returns
-/// `Unkept`. It returns `Complete` for a run that it has changed only if the last checkpoint kept
-/// is the client's.
+/// It prints `retry?` and asks the observer after an attempt that failed, and in place of an attempt
+/// that the observer does not let begin. If the answer is `Leave`, it does nothing more.
 ///
-/// Returns how the dump ended: see `Conclusion`.
-pub fn dump_kept<B: Blocks, P: Peer, R: Read, W: Write, K: Keeper>(
+/// After `dump complete` is printed, the observer enters the dump in the dump's catalog, then in
+/// dumpdates, and then forgets the checkpoint. If the dump cannot be entered in dumpdates, this
+/// prints `dumpdates not updated`, and the checkpoint stays. After `dump abandoned` is printed, the
+/// observer forgets the checkpoint. After any other conclusion nothing more is done.
+///
+/// Returns how the dump ended: see `DumpEnd`.
+pub fn dump_to_end<B: Blocks, P: Peer, W: Write, O: DumpObserver<B, P>>(
     alloc: Global,
     client: &mut Client<B>,
     peer: &mut P,
-    operator: &mut R,
+    observer: &mut O,
     out: &mut Counted<W>,
-    keeper: &mut K,
-) -> Conclusion
+) -> DumpEnd
+    // First comes the dump up to its conclusion, and then what follows the conclusion.
+    //
+    // Up to the conclusion, the call sends requests, and gives the client what comes from the peer,
+    // as `dump` promises.
+    //
     // Each attempt, even the first, starts only if the last kept checkpoint has the client's run
-    // and counted volumes. So if the keeper fails, no attempt starts until a checkpoint with the
-    // client's run and counted volumes is kept. If the call returns `Complete` and a volume was
-    // counted during the call, the last kept checkpoint has all counted volumes. The promises about
-    // kept checkpoints hold if the keeper's contract says which checkpoints were kept. The contract
-    // of `ReplacedFile`, a keeper in `rdump_files`, does not say which checkpoints were kept. No
-    // clause says that a keeper stores the checkpoint's text. The code of `ReplacedFile` stores the
-    // text that the private call `text_of` returns. The clause of `text_of` promises that this text
-    // is the checkpoint's text.
+    // and counted volumes. So if the observer cannot keep a checkpoint, no attempt starts until one
+    // is kept. If the conclusion is `Complete` and a volume was counted during the call, the last
+    // kept checkpoint has all counted volumes. When the observer keeps a checkpoint, the whole line
+    // of each volume that was counted since the call began is printed.
     //
-    // When the call passes a checkpoint to the keeper, the call has already printed the whole line
-    // of each volume that was counted since the call began.
+    // The observer is told of each volume that is counted during the call exactly once, in the order
+    // in which the volumes are counted, and of no other volume. This holds however the dump ends,
+    // even if the line of the volume could not be printed, or if a checkpoint could not be kept. The
+    // observer is told of a volume before a checkpoint that has the volume is kept. The code tells
+    // the observer before it prints the volume's line, but no clause forbids the other order, as the
+    // output is not in the observer's log.
     //
-    // The call prints the lines that `dump` prints, with one exception. If the call returns
-    // `Unkept`, the last line is `checkpoint not written`. The call returns `Complete` only if the
-    // run is finished. No clause forbids that the call keeps the same checkpoint twice, with no
-    // volume counted in between. No clause forbids that the call prints other lines between the
-    // keeper's failure and the last line.
-    ensures kept { IsDumpKept (kept_kind B.holds P.tells W.contents K.puts) (kept_ends client.old peer.old out.old keeper.old)
-        (kept_ends client.new peer.new out.new keeper.new) result }
-    // `Unkept` means that a checkpoint could not be kept. If the keeper cannot fail, the call does
-    // not return `Unkept`.
-    ensures able { result ≡ ends.Unkept → K.can_fail keeper.old }
+    // Up to the conclusion, the call prints the lines that `dump` prints, with two exceptions. If
+    // the conclusion is `Unkept`, the last line is `checkpoint not written`. If the conclusion is
+    // `Left`, there is no last line, and the client is between two attempts. The conclusion is
+    // `Complete` only if the run is finished and `dump complete` is printed whole.
+    //
+    // After the conclusion, the client and the peer do not change. If the conclusion is `Complete`,
+    // the observer first enters the end of the dump in the catalog, and then the dump in dumpdates.
+    // So nothing is entered in dumpdates before `dump complete` is printed whole. If that entry was
+    // made, the observer then forgets the checkpoint, and nothing more is printed. If that entry
+    // failed, the call prints `dumpdates not updated`, and the checkpoint is not forgotten. If the
+    // conclusion is `Abandoned`, the observer forgets the checkpoint. After any other conclusion,
+    // the observer is asked for nothing, and nothing is printed.
+    //
+    // The status is `Success` if and only if the conclusion is `Complete`, the catalog has all of
+    // the dump, the dump is entered, and the checkpoint is forgotten. Otherwise the status is
+    // `Abnormal`.
+    //
+    // All this holds if the observer's contract says what its log contains. No clause says that an
+    // observer stores a checkpoint's text, or writes a catalog. No clause forbids that the same
+    // checkpoint is kept twice, with no volume counted in between. No clause says when the observer
+    // is asked whether an attempt may begin, or what its answers do: none forbids that a dump is
+    // abandoned after the answer `Leave`.
+    ensures ended { IsDumpEnded (kept_kind B.holds P.tells W.contents O.logs) (kept_ends client.old peer.old out.old observer.old)
+        (kept_ends client.new peer.new out.new observer.new) result }
+    // If the observer cannot stop the dump, the conclusion is neither `Unkept` nor `Left`.
+    ensures able { (result.conclusion ≡ ends.Unkept) ⊎ (result.conclusion ≡ ends.Left) → O.can_stop observer.old }
 {
-    let mut book = NoBook;
-    dump_booked(alloc, client, peer, operator, out, keeper, &mut book)
+    let conclusion = dump_to_conclusion(alloc, client, peer, observer, out);
+    let status = settle(conclusion, client, observer, out);
+    DumpEnd { conclusion, status }
 }
 
-/// Does what `dump_kept` does, and also enters in `book` each volume that is counted during the
-/// call.
-///
-/// It enters a volume once the client has counted it, and before it prints the volume's line. It
-/// enters no volume that was counted before the call.
-///
-/// Returns how the dump ended: see `Conclusion`.
-pub fn dump_booked<B: Blocks, P: Peer, R: Read, W: Write, K: Keeper, C: CountBook<B>>(
+/// Makes a client write the volumes of its run to a tape server, as `dump_to_end` does. Returns the
+/// conclusion. Nothing that follows the conclusion is done.
+fn dump_to_conclusion<B: Blocks, P: Peer, W: Write, O: DumpObserver<B, P>>(
     alloc: Global,
     client: &mut Client<B>,
     peer: &mut P,
-    operator: &mut R,
+    observer: &mut O,
     out: &mut Counted<W>,
-    keeper: &mut K,
-    book: &mut C,
 ) -> Conclusion
-    // The call keeps checkpoints, sends requests and prints lines as `dump_kept` does. All promises
-    // that `dump_kept` makes in its clause `kept` hold here too.
-    ensures kept { IsDumpKept (kept_kind B.holds P.tells W.contents K.puts) (kept_ends client.old peer.old out.old keeper.old)
-        (kept_ends client.new peer.new out.new keeper.new) result }
-    // `Unkept` means that a checkpoint could not be kept. If the keeper cannot fail, the call does
-    // not return `Unkept`.
-    ensures able { result ≡ ends.Unkept → K.can_fail keeper.old }
-    // The call enters each volume that is counted during the call exactly once, in the order in
-    // which the volumes are counted. The call enters no other volume. This promise holds if the
-    // book's contract says which counts were entered.
-    //
-    // However the dump ends, the call enters every volume that was counted during the call. The
-    // call enters the volume even if the volume's line could not be printed, or if a checkpoint
-    // could not be kept. No clause says at which moment of the call a volume is entered. The tests
-    // in `tests/checks/catalog.py` show that `rdump dump` first enters a volume, and then prints the
-    // volume's line and keeps the checkpoint. The contract of the book that `rdump dump` uses does
-    // not say which counts were entered.
-    ensures booked { EntersOn C.entered book.old book.new (drop (length client.old.at.counts) client.new.at.counts) }
+    ensures kept { IsDumpKept (kept_kind B.holds P.tells W.contents O.logs) (kept_ends client.old peer.old out.old observer.old)
+        (kept_ends client.new peer.new out.new observer.new) result }
+    ensures able { (result ≡ ends.Unkept) ⊎ (result ≡ ends.Left) → O.can_stop observer.old }
 {
     match client.state() {
         State::Finished | State::Abandoned => return finish(client, out),
@@ -177,14 +193,14 @@ pub fn dump_booked<B: Blocks, P: Peer, R: Read, W: Write, K: Keeper, C: CountBoo
     }
     let (mut text, mut kept) = (Vec::new(alloc), None);
     for _ in 0..u64::MAX {
-        if !keep_up(client, &mut kept, keeper) {
+        if !keep_up(client, &mut kept, observer) {
             return unkept(out);
         }
-        if let Some(end) = round(client, peer, operator, out, &mut text, book) {
+        if let Some(end) = round(client, peer, observer, out, &mut text) {
             return end;
         }
     }
-    if !keep_up(client, &mut kept, keeper) {
+    if !keep_up(client, &mut kept, observer) {
         return unkept(out);
     }
     finish(client, out)
@@ -192,24 +208,24 @@ pub fn dump_booked<B: Blocks, P: Peer, R: Read, W: Write, K: Keeper, C: CountBoo
 
 /// Keeps the client's checkpoint, unless no volume was counted since that was done. Returns whether
 /// it is kept now. `kept` is the number of volumes that the last checkpoint counts.
-fn keep_up<B: Blocks, K: Keeper>(
+fn keep_up<B: Blocks, P: Peer, O: DumpObserver<B, P>>(
     client: &Client<B>,
     kept: &mut Option<usize>,
-    keeper: &mut K,
+    observer: &mut O,
 ) -> bool
-    ensures put { IsKeptUp K.puts (plain_checkpoint client.now.at.run client.now.at.counts) kept.old result kept.new
-        keeper.old keeper.new }
-    ensures able { result ≡ false → K.can_fail keeper.old }
-    ensures quiet { K.can_fail keeper.new → K.can_fail keeper.old }
+    ensures put { IsKeptUp O.logs (plain_checkpoint client.now.at.run client.now.at.counts) kept.old result kept.new
+        observer.old observer.new }
+    ensures able { result ≡ false → O.can_stop observer.old }
+    ensures quiet { O.can_stop observer.new → O.can_stop observer.old }
 {
-    let counts = client.counted();
-    if *kept == Some(counts.len()) {
+    let count = client.counted().len();
+    if *kept == Some(count) {
         return true;
     }
-    if !keeper.keep(client.run(), counts) {
+    if !observer.keep(client) {
         return false;
     }
-    *kept = Some(counts.len());
+    *kept = Some(count);
     true
 }
 

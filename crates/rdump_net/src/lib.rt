@@ -4,8 +4,10 @@
 //! `Peer`, of `remote_tape`, is the far end of a connection; `SocketPeer` reaches it over TCP, or
 //! over a Unix socket.
 //! `dump` makes a client write its volumes to a tape server, asks the operator after a failure, and
-//! prints each counted volume. `dump_kept` also keeps the checkpoint with a `Keeper`. `dump_booked`
-//! also enters each counted volume in a `CountBook`.
+//! prints each counted volume. `dump_to_end` does so for a `DumpObserver`, which is told what
+//! happens, keeps the checkpoint, answers the questions, and does what follows a complete dump.
+//! `Answers` reads answers from a stream, and `Retries` decides whether a dump without an operator
+//! tries again.
 //!
 //! `copy_volume` reads a volume back into a `VolumeSink`, and `read_volume` reads one into two
 //! streams. `mt` does one operation, and `look_at_reel` finds out what a reel begins with. Each
@@ -28,43 +30,43 @@
 //! kept the volume. Promises about a sink hold only if the sink's contract says what the sink's
 //! calls do.
 //!
-//! A *keeper* stores the text of the client's *checkpoint*: the client's run, with the volumes
-//! counted so far. Each new text replaces the previous text. Promises about kept checkpoints hold
-//! only if the keeper's contract says which checkpoints were kept.
-//!
-//! The *count* (`VolumeCount`) of a volume contains the volume's number, the number of the volume's
-//! first block, and how many blocks the volume has. A *book* receives the counts of volumes. A
-//! volume and its count are *entered* when a caller passes the count to the book. Promises about a
-//! book hold only if the book's contract says which counts were entered.
+//! An *observer* attends a dump. The *count* (`VolumeCount`) of a volume contains the volume's
+//! number, the number of the volume's first block, and how many blocks the volume has. The client's
+//! *checkpoint* is the client's run, with the volumes counted so far. The observer's *log* lists the
+//! dump's events in order: the counts that the observer was told of, the checkpoints that it kept,
+//! and what it was asked to do after the dump. Promises about the observer hold only if the
+//! observer's contract says what its log contains.
 #![tactic(auto)]
 
 mod attempt;
-mod book;
 mod conclusion;
 mod fault;
-mod keeper;
 mod kept;
 mod lines;
 mod look;
+mod observer;
 mod operation;
 mod operator;
 mod printing_sink;
 mod protection;
+mod retries;
 mod rounds;
+mod settle;
 mod sink;
 mod socket;
 mod volume;
 
-pub use book::CountBook;
-pub use conclusion::Conclusion;
+pub use conclusion::{Conclusion, DumpEnd};
 pub use fault::ReadFault;
-pub use keeper::Keeper;
-pub use kept::{dump, dump_booked, dump_kept};
+pub use kept::{dump, dump_to_end};
 pub use lines::{LINE_ROOM, failure_line};
 pub use look::{ReelFront, look_at_reel};
+pub use observer::{DumpObserver, Reply};
 pub use operation::mt;
+pub use operator::Answers;
 pub use protection::{Protection, find_protection};
 pub use remote_tape::{CallFault, Passed, Peer, TapeCause, TapeFault, TapeRequest};
+pub use retries::{Retries, Setback};
 pub use sink::{SinkStopped, Verdict, VolumeSink};
 pub use socket::SocketPeer;
 pub use volume::{AfterVolume, copy_volume, read_volume};

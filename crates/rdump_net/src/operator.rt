@@ -1,13 +1,51 @@
 //! The operator's answers.
+ghost use Rattle.std.specs.Prelude.{◌≢◌};
+ghost use Rattle.rdump_net.specs.declared.observer.Reply.TheVariants as replies;
+
+use crate::Reply;
 use std::io::{ErrorKind, Read};
 
 /// The answer after which a volume is tried again.
 const YES: &[u8] = b"yes";
 
+/// Reads the answers to `retry?` from a stream, one line each.
+#[derive(Drop)]
+pub struct Answers<R> {
+    operator: R,
+}
+
+impl<R: Read> Answers<R> {
+    /// Makes the reader of the answers on this stream.
+    pub fn new(operator: R) -> Self {
+        Answers { operator }
+    }
+
+    /// Reads one line. Returns `Retry` if the line is exactly `yes`, else `Abandon`.
+    ///
+    /// The end of the input ends its last line, and so does a read that fails.
+    pub fn answer(&mut self) -> Reply
+        // The call never returns `Leave`. No clause says which other answer comes.
+        ensures { result ≢ replies.Leave }
+    {
+        answer(&mut self.operator)
+    }
+}
+
+/// Reads one line of the operator's input. Returns `Retry` if it is exactly `yes`, else `Abandon`.
+pub(crate) fn answer<R: Read>(operator: &mut R) -> Reply
+    ensures { result ≢ replies.Leave }
+{
+    if says_yes(operator) {
+        Reply::Retry
+    } else {
+        Reply::Abandon
+    }
+}
+
 /// Reads one line of the operator's input. Returns whether it is exactly `yes`.
 ///
 /// The end of the input ends its last line, and so does a read that fails.
-pub(crate) fn says_yes<R: Read>(operator: &mut R) -> bool {
+fn says_yes<R: Read>(operator: &mut R) -> bool {
     let mut wanted = YES;
     let mut agrees = true;
     for _ in 0..u64::MAX {

@@ -1,124 +1,130 @@
-//! The rounds of a dump: attempt after attempt, the lines that report them, and the operator's
-//! answers.
-//!
-//! `operator` is the stream of the operator's answers.
-ghost use Rattle.std.specs.Prelude.{◌≡◌, ◌≢◌, false, Some, length, drop, if◌then◌else◌};
-ghost use Rattle.dump_client.specs.Standing.{checkpoint_of};
-ghost use Rattle.rdump_net.specs.Booking.{EntersOn};
-ghost use Rattle.rdump_net.specs.Lines.{DumpLines, IsFinish, IsRound, complete_line, count_lines, failure_lines};
-ghost use Rattle.rdump_net.specs.declared.attempt.Attempted.TheVariants.{NotStarted};
+//! The rounds of a dump: attempt after attempt, the lines that report them, and the answers to the
+//! questions.
+ghost use Rattle.std.specs.Prelude.{◌≡◌, ◌≢◌, ◌⊎◌, false, List, [], Some, length, drop, if◌then◌else◌};
+ghost use Rattle.dump_client.specs.Standing.{VolumeCount, checkpoint_of};
+ghost use Rattle.dump_client.specs.declared.stage.Stage.TheVariants as stages;
+ghost use Rattle.rdump_net.specs.Lines.{DumpLines, IsBetween, IsFinish, IsPrefixOf, IsReplied, IsRound, complete_line, count_lines, failure_lines};
+ghost use Rattle.rdump_net.specs.Observing.{HasTold, Observes, told_of};
+ghost use Rattle.rdump_net.specs.declared.attempt.Attempted.TheVariants.{Held, NotStarted};
 ghost use Rattle.rdump_net.specs.declared.conclusion.Conclusion.TheVariants as ends;
+ghost use Rattle.rdump_net.specs.declared.observer.Reply.TheVariants as replies;
 ghost use Rattle.rmt_wire.specs.Print.{IsPrinted};
 ghost use Rattle.rdump_net.specs.Talk.{FromThis, TalksAlone, TalksOver};
 
 use crate::attempt::{Attempted, attempt};
 use crate::lines::{LINE_ROOM, QUESTION, complete_text, failure_text, print_counts};
-use crate::operator::says_yes;
-use crate::{Conclusion, CountBook, Peer};
+use crate::{Conclusion, DumpObserver, Peer, Reply};
 use arrayvec::ArrayString;
 use dump_client::{Answer, AttemptFault, Blocks, Client, State, VolumeCount};
 use rmt_wire::{Counted, print_text};
-use std::io::{Read, Write};
+use std::io::Write;
 
 /// Does the one thing that the client waits for. Returns how the dump ended, if it did.
-#[tactic(auto, using(crate::proofs::Talking::nothing_said, crate::proofs::Talking::by_itself, crate::proofs::Booking::enters_same, crate::proofs::Printed::last_alone))]
-pub(crate) fn round<B: Blocks, P: Peer, R: Read, W: Write, C: CountBook<B>>(
+#[tactic(auto, using(crate::proofs::Talking::nothing_said, crate::proofs::Talking::by_itself, crate::proofs::Printed::last_alone))]
+pub(crate) fn round<B: Blocks, P: Peer, W: Write, O: DumpObserver<B, P>>(
     client: &mut Client<B>,
     peer: &mut P,
-    operator: &mut R,
+    observer: &mut O,
     out: &mut Counted<W>,
     text: &mut Vec<u8>,
-    book: &mut C,
 ) -> Option<Conclusion>
     ensures talks { TalksOver B.holds (FromThis client.old.at) P.tells client.old client.new peer.old peer.new }
     ensures printed { IsRound W.contents client.old.at.counts client.new.at out.old out.new result }
     ensures still { result ≡ Some ends.Complete → client.new.at ≡ client.old.at }
-    ensures booked { EntersOn C.entered book.old book.new (drop (length client.old.at.counts) client.new.at.counts) }
+    ensures told { Observes O.logs O.can_stop observer.old observer.new (told_of (drop (length client.old.at.counts) client.new.at.counts)) }
+    ensures able { result ≡ Some ends.Left → O.can_stop observer.old }
 {
     match client.state() {
-        State::Ready => {
-            let may = peer.may_begin();
-            begin_volume(client, peer, may, operator, out, text, book)
+        State::Ready | State::ToSend | State::Waiting => {
+            try_volume(client, peer, observer, out, text)
         }
-        State::ToSend | State::Waiting => try_volume(client, peer, operator, out, text, book),
-        State::Asking => {
-            ask(client, operator);
-            None
-        }
+        State::Asking => ask(client, observer),
         State::Finished | State::Abandoned => Some(finish(client, out)),
     }
 }
 
-/// If `may` is true, makes the client begin an attempt to write its next volume; otherwise asks the
-/// operator whether to retry. Returns how the dump ended, if it did.
-#[tactic(auto, using(crate::proofs::Talking::nothing_said, crate::proofs::Booking::enters_same))]
-fn begin_volume<B: Blocks, P: Peer, R: Read, W: Write, C: CountBook<B>>(
+/// Has the client try its next volume, if the observer lets the attempt begin. Tells the observer
+/// of what was counted, and prints the outcome. Returns how the dump ended, if it did.
+fn try_volume<B: Blocks, P: Peer, W: Write, O: DumpObserver<B, P>>(
     client: &mut Client<B>,
     peer: &mut P,
-    may: bool,
-    operator: &mut R,
+    observer: &mut O,
     out: &mut Counted<W>,
     text: &mut Vec<u8>,
-    book: &mut C,
 ) -> Option<Conclusion>
     ensures talks { TalksOver B.holds (FromThis client.old.at) P.tells client.old client.new peer.old peer.new }
     ensures printed { IsRound W.contents client.old.at.counts client.new.at out.old out.new result }
     ensures still { result ≡ Some ends.Complete → client.new.at ≡ client.old.at }
-    ensures booked { EntersOn C.entered book.old book.new (drop (length client.old.at.counts) client.new.at.counts) }
-    // If `may` is false, the call does not change the client or the peer. No clause says that `may`
-    // is the value that `Peer::may_begin` returned.
-    ensures held { may ≡ false → (client.new ≡ client.old) × (peer.new ≡ peer.old) }
-{
-    if may {
-        return try_volume(client, peer, operator, out, text, book);
-    }
-    ask_here(client, QUESTION.as_bytes(), operator, out)
-}
-
-/// Has the client try its next volume, and prints the outcome. Returns how the dump ended, if it
-/// did.
-fn try_volume<B: Blocks, P: Peer, R: Read, W: Write, C: CountBook<B>>(
-    client: &mut Client<B>,
-    peer: &mut P,
-    operator: &mut R,
-    out: &mut Counted<W>,
-    text: &mut Vec<u8>,
-    book: &mut C,
-) -> Option<Conclusion>
-    ensures talks { TalksOver B.holds (FromThis client.old.at) P.tells client.old client.new peer.old peer.new }
-    ensures printed { IsRound W.contents client.old.at.counts client.new.at out.old out.new result }
-    ensures still { result ≡ Some ends.Complete → client.new.at ≡ client.old.at }
-    ensures booked { EntersOn C.entered book.old book.new (drop (length client.old.at.counts) client.new.at.counts) }
+    ensures told { Observes O.logs O.can_stop observer.old observer.new (told_of (drop (length client.old.at.counts) client.new.at.counts)) }
+    ensures able { result ≡ Some ends.Left → O.can_stop observer.old }
 {
     let before = volumes(client);
-    let attempted = attempt(client, peer, text);
-    enter_counts(client, before, book);
+    let may = may_attempt(client, observer);
+    let attempted = attempt(client, peer, observer, text, may);
+    tell_counts(client, before, observer);
+    report(client, before, attempted, observer, out)
+}
+
+/// Returns whether an attempt may begin or go on. If none is under way, the observer is asked.
+fn may_attempt<B: Blocks, P: Peer, O: DumpObserver<B, P>>(
+    client: &Client<B>,
+    observer: &mut O,
+) -> bool
+    ensures ready { result ≡ false → client.now.at.stage ≡ stages.Ready }
+    ensures observed { Observes O.logs O.can_stop observer.old observer.new [] }
+{
+    client.state() != State::Ready || observer.may_begin()
+}
+
+/// Prints the counted volumes after the first `before`, of which the observer has been told. Then
+/// prints that the attempt failed, or asks whether to try again, if it did not start.
+///
+/// Returns how the dump ended: if printing failed, or after the answer.
+fn report<B: Blocks, P: Peer, W: Write, O: DumpObserver<B, P>>(
+    client: &Client<B>,
+    before: usize,
+    attempted: Attempted,
+    observer: &mut O,
+    out: &mut Counted<W>,
+) -> Option<Conclusion>
+    requires told { HasTold O.logs observer.old (drop before client.now.at.counts) }
+    requires between { (attempted ≡ NotStarted) ⊎ (attempted ≡ Held) → IsBetween client.now.at.stage }
+    ensures printed { (first : List VolumeCount) → before ≡ length first → IsPrefixOf first client.now.at.counts →
+        IsRound W.contents first client.now.at out.old out.new result }
+    ensures ends { result ≡ Some ends.Complete → (attempted ≡ NotStarted) ⊎ (attempted ≡ Held) }
+    ensures observed { Observes O.logs O.can_stop observer.old observer.new [] }
+    ensures able { result ≡ Some ends.Left → O.can_stop observer.old }
+{
     if !print_since(client, before, out) {
         return Some(Conclusion::PrintFailed);
     }
-    report(client, attempted, operator, out)
+    report_outcome(client, attempted, observer, out)
 }
 
-/// Prints that an attempt failed, if it did. If it could not start, it prints `OutOfMemory` and
-/// asks the operator here.
+/// Prints that an attempt failed, if it did. If it did not start, it asks here whether to try again.
 ///
-/// Returns how the dump ended: if printing failed, or if the operator gave up.
-fn report<B: Blocks, R: Read, W: Write>(
+/// Returns how the dump ended: if printing failed, or after the answer.
+#[tactic(auto, using(crate::proofs::Observed::observes_none))]
+fn report_outcome<B: Blocks, P: Peer, W: Write, O: DumpObserver<B, P>>(
     client: &Client<B>,
     attempted: Attempted,
-    operator: &mut R,
+    observer: &mut O,
     out: &mut Counted<W>,
 ) -> Option<Conclusion>
+    requires { (attempted ≡ NotStarted) ⊎ (attempted ≡ Held) → IsBetween client.now.at.stage }
     ensures printed { IsRound W.contents client.now.at.counts client.now.at out.old out.new result }
-    ensures ends { result ≡ Some ends.Complete → attempted ≡ NotStarted }
+    ensures ends { result ≡ Some ends.Complete → (attempted ≡ NotStarted) ⊎ (attempted ≡ Held) }
+    ensures observed { Observes O.logs O.can_stop observer.old observer.new [] }
+    ensures able { result ≡ Some ends.Left → O.can_stop observer.old }
 {
     match attempted {
         Attempted::Over => None,
         Attempted::Failed(fault) => print_end(client, fault, out),
         Attempted::NotStarted => {
             let lines = failure_of(client, AttemptFault::OutOfMemory);
-            ask_here(client, lines.as_bytes(), operator, out)
+            ask_here(client, lines.as_bytes(), observer, out)
         }
+        Attempted::Held => ask_here(client, QUESTION.as_bytes(), observer, out),
     }
 }
 
@@ -130,7 +136,7 @@ fn print_end<B: Blocks, W: Write>(
     out: &mut Counted<W>,
 ) -> Option<Conclusion>
     ensures printed { IsRound W.contents client.now.at.counts client.now.at out.old out.new result }
-    ensures ends { result ≢ Some ends.Complete }
+    ensures ends { (result ≢ Some ends.Complete) × (result ≢ Some ends.Left) }
 {
     if print_failure(client, fault, out) {
         None
@@ -139,26 +145,30 @@ fn print_end<B: Blocks, W: Write>(
     }
 }
 
-/// Prints these lines, which end with the question, and reads the operator's answer. It is for an
+/// Prints these lines, which end with the question, and takes the observer's answer. It is for an
 /// attempt that did not start.
 ///
-/// Returns how the dump ended: if printing failed, or if the answer is not `yes`.
-fn ask_here<B: Blocks, R: Read, W: Write>(
+/// Returns how the dump ended: if printing failed, or if the answer is not to try again.
+fn ask_here<B: Blocks, P: Peer, W: Write, O: DumpObserver<B, P>>(
     client: &Client<B>,
     lines: &[u8],
-    operator: &mut R,
+    observer: &mut O,
     out: &mut Counted<W>,
 ) -> Option<Conclusion>
-    requires { DumpLines client.now.at.counts client.now.at.counts lines.now }
-    ensures { IsRound W.contents client.now.at.counts client.now.at out.old out.new result }
+    requires lines { DumpLines client.now.at.counts client.now.at.counts lines.now }
+    requires between { IsBetween client.now.at.stage }
+    ensures printed { IsRound W.contents client.now.at.counts client.now.at out.old out.new result }
+    ensures observed { Observes O.logs O.can_stop observer.old observer.new [] }
+    ensures able { result ≡ Some ends.Left → O.can_stop observer.old }
 {
     if !print_text(out, lines) {
         return Some(Conclusion::PrintFailed);
     }
-    if says_yes(operator) {
-        return None;
+    match observer.answer() {
+        Reply::Retry => None,
+        Reply::Abandon => Some(finish(client, out)),
+        Reply::Leave => Some(Conclusion::Left),
     }
-    Some(finish(client, out))
 }
 
 /// Returns how many volumes are counted.
@@ -168,12 +178,16 @@ fn volumes<B: Blocks>(client: &Client<B>) -> usize
     client.counted().len()
 }
 
-/// Enters the counted volumes after the first `before` in the book, in order.
-fn enter_counts<B: Blocks, C: CountBook<B>>(client: &Client<B>, before: usize, book: &mut C)
-    ensures { EntersOn C.entered book.old book.new (drop before client.now.at.counts) }
+/// Tells the observer of the counted volumes after the first `before`, in order.
+fn tell_counts<B: Blocks, P: Peer, O: DumpObserver<B, P>>(
+    client: &Client<B>,
+    before: usize,
+    observer: &mut O,
+)
+    ensures { Observes O.logs O.can_stop observer.old observer.new (told_of (drop before client.now.at.counts)) }
 {
     for count in counts_from(client, before) {
-        book.enter(client, *count);
+        observer.counted(client, *count);
     }
 }
 
@@ -213,24 +227,50 @@ fn failure_of<B: Blocks>(client: &Client<B>, fault: AttemptFault) -> ArrayString
     failure_text(volume, fault)
 }
 
-/// Reads the operator's answer and passes it to the client.
-#[tactic(auto, using(crate::proofs::Talking::answered_alone))]
-fn ask<B: Blocks, R: Read>(client: &mut Client<B>, operator: &mut R)
+/// Takes the observer's answer, and passes it to the client. Returns `Left` if the dump is to end at
+/// once; then the client is unchanged.
+fn ask<B: Blocks, P: Peer, O: DumpObserver<B, P>>(
+    client: &mut Client<B>,
+    observer: &mut O,
+) -> Option<Conclusion>
+    requires { client.old.at.stage ≡ stages.Asking }
     ensures same { client.new.at.counts ≡ client.old.at.counts }
     ensures alone { TalksAlone B.holds client.old client.new }
+    ensures ends { IsReplied client.new.at result }
+    ensures observed { Observes O.logs O.can_stop observer.old observer.new [] }
+    ensures able { result ≡ Some ends.Left → O.can_stop observer.old }
 {
-    let answer = if says_yes(operator) {
-        Answer::Retry
-    } else {
-        Answer::Abandon
+    let reply = observer.answer();
+    take_reply(client, reply)
+}
+
+/// Passes an answer to the client. Returns `Left` if the dump is to end at once; then the client is
+/// unchanged.
+#[tactic(auto, using(crate::proofs::Talking::answered_alone, crate::proofs::Talking::left_alone))]
+fn take_reply<B: Blocks>(client: &mut Client<B>, reply: Reply) -> Option<Conclusion>
+    requires { client.old.at.stage ≡ stages.Asking }
+    ensures same { client.new.at.counts ≡ client.old.at.counts }
+    ensures alone { TalksAlone B.holds client.old client.new }
+    ensures ends { IsReplied client.new.at result }
+    // If the answer is `Leave`, the client is unchanged, and the dump ends as `Left`. Otherwise the
+    // dump goes on.
+    ensures left { reply ≡ replies.Leave → (client.new ≡ client.old) × (result ≡ Some ends.Left) }
+    ensures able { result ≡ Some ends.Left → reply ≡ replies.Leave }
+{
+    let answer = match reply {
+        Reply::Retry => Answer::Retry,
+        Reply::Abandon => Answer::Abandon,
+        Reply::Leave => return Some(Conclusion::Left),
     };
     let _ = client.answer(answer);
+    None
 }
 
 /// Prints the dump's last line. Returns how it ended: `Complete` or `Abandoned`, and `PrintFailed`
 /// if the line was not printed.
 pub(crate) fn finish<B: Blocks, W: Write>(client: &Client<B>, out: &mut Counted<W>) -> Conclusion
-    ensures { IsFinish W.contents client.now.at out.old out.new result }
+    ensures printed { IsFinish W.contents client.now.at out.old out.new result }
+    ensures stays { result ≢ ends.Left }
 {
     match client.state() {
         State::Finished => {

@@ -1,7 +1,6 @@
 //! A peer over TCP, or over a Unix socket.
 
 use crate::Peer;
-use dump_client::AttemptFault;
 use sockets::{Stream, connect};
 use std::io::{self, Read, Write};
 use std::net::Net;
@@ -9,7 +8,7 @@ use std::rt::Clock;
 use std::thread;
 use std::time::Duration;
 
-/// How long to wait before a connection that follows failed ones, in seconds.
+/// How long to wait before a connection that follows a silent one, in seconds.
 const PAUSE_SECONDS: u64 = 1;
 
 /// A peer at an address `HOST:PORT`, which it reaches over TCP, or `unix:PATH`, the path of a Unix
@@ -26,9 +25,8 @@ const PAUSE_SECONDS: u64 = 1;
 ///
 /// A connection that failed, or that the far end ended, is closed.
 ///
-/// A new connection first waits one second in two cases: the latest one could not be made or
-/// received no byte, or attempts failed over the latest two in a row. So a client that retries in a
-/// loop does not burden the server, and one that retries a first failure does not wait.
+/// A new connection first waits one second if the latest one could not be made or received no byte.
+/// So a client that retries in a loop does not burden the server.
 #[derive(Drop)]
 pub struct SocketPeer<'a, R: Net + Clock> {
     runtime: &'a R,
@@ -37,8 +35,6 @@ pub struct SocketPeer<'a, R: Net + Clock> {
     stream: Option<Stream<R::Stream>>,
     failure: Option<io::Error>,
     was_silent: bool,
-    has_failed: bool,
-    has_failed_before: bool,
 }
 
 impl<'a, R: Net + Clock> SocketPeer<'a, R> {
@@ -52,8 +48,6 @@ impl<'a, R: Net + Clock> SocketPeer<'a, R> {
             stream: None,
             failure: None,
             was_silent: false,
-            has_failed: false,
-            has_failed_before: false,
         }
     }
 
@@ -64,10 +58,9 @@ impl<'a, R: Net + Clock> SocketPeer<'a, R> {
         self.failure.as_ref()
     }
 
-    /// Waits a second if the latest connection received nothing, or if attempts failed over it and
-    /// over the one before.
+    /// Waits a second if the latest connection received nothing.
     fn pause(&self) {
-        if self.was_silent || (self.has_failed && self.has_failed_before) {
+        if self.was_silent {
             thread::sleep(self.runtime, Duration::from_secs(PAUSE_SECONDS));
         }
     }
@@ -86,8 +79,6 @@ impl<'a, R: Net + Clock> Peer for SocketPeer<'a, R> {
         self.stream = None;
         self.pause();
         self.was_silent = true;
-        self.has_failed_before = self.has_failed;
-        self.has_failed = false;
         match connect(self.runtime, self.address, self.timeout) {
             Ok(stream) => {
                 self.stream = Some(stream);
@@ -138,9 +129,5 @@ impl<'a, R: Net + Clock> Peer for SocketPeer<'a, R> {
 
     fn hang_up(&mut self) {
         self.stream = None;
-    }
-
-    fn attempt_failed(&mut self, _fault: AttemptFault) {
-        self.has_failed = true;
     }
 }

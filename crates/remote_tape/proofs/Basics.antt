@@ -7,7 +7,7 @@ pub is_fault : {X E : Type 0} {result : Result X E} {fault : E} → IsErrAnd res
 is_fault {result = Ok x} is = absurd is
 is_fault {result = Err e} is = ap (λ f. Err f) is
 
--- what is appended to a log: what passed at a peer, the checkpoints that were put, the counts that were entered
+-- what is appended to a log: what passed at a peer, the events of a dump
 module _ {A X : Type 0} (holds : A → List X → Type 0) where
   -- nothing is appended where nothing is done
   pub alone : (a : A) (log : List X) → holds a log → holds a (log ++ [])

@@ -3,8 +3,6 @@ ghost use Rattle.std.specs.Prelude.{◌≤◌, List, [], length, take};
 ghost use Rattle.remote_tape.specs.Peer.{AreBytesSent, Logs, connected, given};
 ghost use Rattle.remote_tape.specs.declared.peer.Passed.{Passed};
 
-use dump_client::{AttemptFault, VolumeLabel};
-
 /// One event between a caller and a peer.
 #[derive(Clone, Copy, Debug, PartialEq, Eq)]
 pub enum Passed {
@@ -61,34 +59,4 @@ pub trait Peer {
     fn hang_up(&mut self)
         // The call adds nothing to the log.
         ensures { Logs tells self.old self.new [] };
-
-    /// Returns whether the next attempt is allowed to begin. The caller asks before each attempt,
-    /// with no connection open, and nothing passes.
-    ///
-    /// An implementation that looks at the reel uses a connection of its own. If it returns false,
-    /// the operator is asked in place of the attempt; it may first print why.
-    fn may_begin(&mut self) -> bool
-        // The call adds nothing to the log. No clause says what the call returns.
-        ensures { Logs tells self.old self.new [] }
-    {
-        true
-    }
-
-    /// Reports to the peer that an attempt failed, and why. The connection is closed by then, and
-    /// nothing passes. An implementation may print the reason.
-    fn attempt_failed(&mut self, fault: AttemptFault)
-        // The call adds nothing to the log. No clause says that `dump` makes this call.
-        ensures { Logs tells self.old self.new [] }
-    {
-        let _ = fault;
-    }
-
-    /// Reports the label of a reel to the peer, before an attempt overwrites the reel. The
-    /// connection is open, and nothing passes. An implementation may print the label.
-    fn overwrites(&mut self, label: &VolumeLabel)
-        // The call adds nothing to the log. No clause says that `dump` makes this call.
-        ensures { Logs tells self.old self.new [] }
-    {
-        let _ = label;
-    }
 }

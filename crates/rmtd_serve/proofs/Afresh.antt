@@ -1,5 +1,5 @@
--- A stream that a session of its own served, at stacks that are seen alone, and the line that asked for it.
-use Rattle.std.proofs.Common.{◌≡◌, ℕ, ◌<◌, List, [], length, Option, None, Result, Err, refl, sym, subst, ◌∙◌}
+-- A stream that a session of its own served, at stacks that are seen alone.
+use Rattle.std.proofs.Common.{◌≡◌, ℕ, List, Option, None, Result, Err, refl, sym, subst, ◌∙◌}
 use Rattle.rmt_wire.specs.Counted.{Counting}
 use Rattle.tape.specs.declared.reel.Reel.{Ghosts as ReelPromise}
 use Rattle.drives.specs.declared.stacks.Stacks.{Ghosts as StacksPromise}
@@ -10,19 +10,13 @@ use Rattle.drives.specs.contracts.local.LocalHoldsHolds.TheImpl.{ghosts as of_ho
 use Rattle.rmt_server.specs.declared.stream.Served.{Served}
 use Rattle.rmt_server.specs.State.{State}
 use Rattle.rmt_server.specs.Stream.{streams, streams_kind}
-use Rattle.rmtd_args.specs.declared.rmtd_line.ServerLine.{ServerLine}
 use Rattle.rmtd_serve.specs.declared.session_fault.SessionFault.{SessionFault}
-use Rattle.rmtd_serve.specs.declared.session_fault.SessionFault.TheVariants.{OutOfMemory, NoSeat}
-use Rattle.rmtd_serve.specs.declared.status.ExitStatus.{ExitStatus}
-use Rattle.rmtd_serve.specs.Status.{ending_of, exit_status}
-use Rattle.rmtd_serve.specs.Startup.{EndsLine}
-use Rattle.rmtd_serve.specs.Startup.EndsLine.{in_folders}
+use Rattle.rmtd_serve.specs.declared.session_fault.SessionFault.TheVariants.{NoSeat}
 use Rattle.rmtd_serve.specs.Generic.{IsServedAt}
 use Rattle.rmtd_serve.specs.Generic.IsServedAt.{no_memory, no_seat, one_served}
 use Rattle.rmtd_serve.specs.Serving.{AllFree}
 use Rattle.rmtd_serve.specs.Seating.{ServesStreams}
 use Rattle.rmtd_serve.specs.Seating.ServesStreams.{untouched, served}
-use Rattle.rmtd_serve.proofs.Endings.{ends_with, none_read, none_ends}
 use Rattle.rmtd_serve.proofs.Resting.{free_alone}
 
 -- no seat was left, and nothing was read or written
@@ -42,17 +36,3 @@ pub stacks_served : {S R In Out : Type 0} (s : StacksPromise S R) (r : ReelPromi
 stacks_served s r remaining contents start before after b a n f free (untouched i o) = no_memory (sym a ∙ b) i o
 stacks_served s r remaining contents start before after b a n f free (served finish result is steady) =
     one_served start finish result b n (free_alone s r start free) a f is steady
-
--- What a line asks that names drives was done, where a stream was served at them: what was read and how it ended is that of the stream.
-pub folders_served : {H S Seat R In Out : Type 0} {k : Kinds H Seat S R} (remaining : In → Option (List ℕ)) (contents : Out → Option (List ℕ))
-    {before after : S} {input input' : Counting In} {output output' : Counting Out} {ending : Result Served SessionFault} {line : ServerLine} {status : ExitStatus}
-    → line.listen ≡ None → 0 < length line.drives.items
-    → IsServedAt k (streams_kind remaining contents) before after (streams input output) (streams input' output') ending → status ≡ exit_status ending
-    → EndsLine (streams_kind remaining contents) line (streams input output) (streams input' output') status
-folders_served remaining contents {output = output} {output'} listen some (no_memory same i o) e =
-    in_folders (Err OutOfMemory) [] [] [] listen some (none_read remaining contents output output' i) (none_ends remaining contents i o) e
-folders_served remaining contents {output = output} {output'} listen some (no_seat same i o) e =
-    in_folders (Err NoSeat) [] [] [] listen some (none_read remaining contents output output' i) (none_ends remaining contents i o) e
-folders_served remaining contents {input = input} {input'} {output} {output'} listen some (one_served start finish result b n alone a f is steady) e =
-    in_folders (ending_of result) is.read is.done is.rest listen some is.consumed
-    (ends_with remaining contents result input input' output output' is.read is.done is.rest is.ends steady) e

@@ -4,11 +4,10 @@ use Rattle.std.proofs.lemmas.List.Elements.{All-push}
 use Rattle.std.proofs.lemmas.Option.{none-some}
 use mathlib.Core.Option.{some, some-injective, some-ne-none}
 use lib.ListN.{get_elem?}
-use Rattle.atomic_table.specs.Seated.{TableId}
 use Rattle.drives.specs.Holding.{has, HoldsJust}
 use Rattle.hold_table.specs.declared.table.TheConstants.{SEAT_LIMIT}
 use Rattle.hold_table.specs.Closing.{IsClosing}
-use Rattle.hold_table.specs.Seats.{TableSeat, IsSeatAt}
+use Rattle.hold_table.specs.Seats.{TableSeat}
 
 module _ {A : Type 0} where
   reads : (l : List A) (k : ℕ) (a : A) → get_elem? l k ≡ some a → (k < length l) × (get_or l k a ≡ a)
@@ -30,13 +29,13 @@ is_false : (b : Bool) → (b ≡ true → ⊥) → b ≡ false
 is_false true never = absurd (never refl)
 is_false false never = refl
 
-module _ (t : TableId) (words : List ℕ) (seats : List TableSeat) (closing : IsClosing words seats) (idle : All (λ s. IsSeatAt t s × HoldsJust s.view None) seats) where
+module _ (words : List ℕ) (seats : List TableSeat) (closing : IsClosing words seats) (idle : All (λ s. HoldsJust s.view None) seats) where
   -- with all seats of the table back, no drive is held
   pub free : length seats ≡ SEAT_LIMIT → (d : ℕ) → get_or words d 0 ≡ 0
   free all d = closing.free d all (λ k x e.
-      let r = reads seats k x e in let none : HoldsJust x.view None = subst (λ (s : TableSeat). HoldsJust s.view None) r.1 (idle k x r.0).1 in
+      let r = reads seats k x e in let none : HoldsJust x.view None = subst (λ (s : TableSeat). HoldsJust s.view None) r.1 (idle k x r.0) in
       is_false (has x.view d) (λ holds. none-some d ((none d).0 holds)))
 
   -- no drive is held by a seat that is back
   pub back : (k : ℕ) (x : TableSeat) → k < length seats → (d : ℕ) → get_or words d 0 ≢ (get_or seats k x).view.number
-  back k x below d same = none-some d (((idle k x below).1 d).0 ((closing.held k (get_or seats k x) d (there seats k x below)).0 same))
+  back k x below d same = none-some d (((idle k x below) d).0 ((closing.held k (get_or seats k x) d (there seats k x below)).0 same))

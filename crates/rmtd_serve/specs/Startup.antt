@@ -7,7 +7,7 @@ use Rattle.std.specs.declared.time.Duration.{Duration}
 use Rattle.std.specs.declared.io.traits.Read.{Ghosts as ReadPromise}
 use Rattle.clap.specs.Words.{Text}
 use Rattle.rmt_server.specs.declared.stream.Served.{Served}
-use Rattle.rmt_server.specs.Stream.{Exchange, Streams, StreamsKind, AreRead}
+use Rattle.rmt_server.specs.Stream.{Streams, StreamsKind}
 use Rattle.reel_files.specs.Folders.{FolderLibrary}
 use Rattle.rmtd_args.specs.declared.rmtd_line.ServerLine.{ServerLine}
 use Rattle.rmtd_args.specs.Rmtd.{AskToBeShown, IsLineOf}
@@ -17,20 +17,21 @@ use Rattle.rmtd_serve.specs.declared.session_fault.SessionFault.{SessionFault}
 use Rattle.rmtd_serve.specs.declared.status.ExitStatus.{ExitStatus}
 use Rattle.rmtd_serve.specs.declared.status.ExitStatus.TheVariants.{Ended, Failed}
 use Rattle.rmtd_serve.specs.Status.{exit_status}
-use Rattle.rmtd_serve.specs.Stdio.{AreUntouched, EndsWith, EndsStdio}
-use Rattle.rmtd_serve.specs.Folders.{stacks_of}
+use Rattle.rmtd_serve.specs.Stdio.{AreUntouched, EndsStdio}
+use Rattle.rmtd_serve.specs.Folders.{stacks_of, AreStacksOf, folder_kinds}
+use Rattle.rmtd_serve.specs.Generic.{IsServedAt}
 
 -- The arguments were followed, and the status is this one. The streams were served with a drive in
--- memory or with drives in folders, and the requests read were answered up to that end. Or all
--- connections were served one after the other. Or the server could not start, or the listener can
--- never accept again. Reels in folders have no known contents, so their replies are not specified.
+-- memory or with drives in folders, in a session of its own. Or all connections were served one
+-- after the other. Or the server could not start, or the listener can never accept again. Reels in
+-- folders have no known contents.
 pub data EndsLine {In Out : Type 0} (kind : StreamsKind In Out) (line : ServerLine) (old new : Streams In Out) (status : ExitStatus) : Type 0 where
   in_memory : line.listen ≡ None → line.drives.items ≡ []
       → EndsStdio kind line.capacity old new status
       → EndsLine kind line old new status
-  in_folders : (ending : Result Served SessionFault) (read : List ℕ) (done : List Exchange) (rest : List ℕ)
-      → line.listen ≡ None → 0 < length line.drives.items
-      → AreRead kind old new read → EndsWith kind ending old new read done rest → status ≡ exit_status ending
+  in_folders : (ending : Result Served SessionFault) (before after : FolderLibrary)
+      → line.listen ≡ None → 0 < length line.drives.items → AreStacksOf line before
+      → IsServedAt folder_kinds kind before after old new ending → status ≡ exit_status ending
       → EndsLine kind line old new status
   listened : IsSome line.listen → line.drives.items ≡ [] → AreUntouched old new → status ≡ Ended
       → EndsLine kind line old new status

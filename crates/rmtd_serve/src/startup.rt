@@ -9,6 +9,7 @@ ghost use Rattle.rmtd_args.specs.Drive.{KeepsDriveRules, plain_drive};
 ghost use Rattle.rmtd_args.specs.Rmtd.{IsShown};
 ghost use Rattle.rmt_server.specs.Stream.{streams, streams_kind};
 ghost use Rattle.rmtd_serve.specs.declared.status.ExitStatus.TheVariants.{Ended, Failed};
+ghost use Rattle.rmtd_serve.specs.Folders.{stacks_of, AreStacksOf};
 ghost use Rattle.rmtd_serve.specs.Status.{exit_status};
 ghost use Rattle.rmtd_serve.specs.Stdio.{AreUntouched};
 ghost use Rattle.rmtd_serve.specs.Startup.{IsDone, IsBegun, IsStarted, ListensOrEnds};
@@ -29,7 +30,6 @@ use crate::tape_server::TapeServer;
 use crate::warnings::Warnings;
 use clap::Error;
 use clap::error::ErrorKind;
-use drives::Stacks;
 use file_medium::reserve_std_fds;
 use printable::{PlainLines, plain};
 use reel_files::{FolderStacks, FolderSystem, Log};
@@ -172,10 +172,12 @@ pub fn begin<R: ServerSystem, I: Read, O: Write>(
     // With `--stdio` and a drive in memory, `begin` serves the given streams as `run_stdio`
     // promises. `begin` returns the exit status that `run_stdio` promises.
     //
-    // With `--stdio` and drives in folders, `begin` serves the given streams. Until the stream
-    // ends, `begin` answers the requests that it has read: each exactly once, in order. `begin`
-    // returns the status that `ExitStatus::of` returns for this end of the stream. No clause says
-    // which replies `begin` writes.
+    // With `--stdio` and drives in folders, `begin` serves the given streams as `TapeServer::serve`
+    // promises, with the stacks of the drives, the bin and the capacity that the arguments name. So
+    // each request that was read is answered exactly once, in order, as a session at these stacks
+    // answers it. `begin` returns the status that `ExitStatus::of` returns for the end of the
+    // stream. The contents of folders are not specified, so no clause says which bytes a read
+    // returns, or that any request succeeds.
     //
     // With `--listen` and a drive in memory, `begin` returns `Ended` or `Failed`, and touches
     // neither stream. No clause says that connections were served.
@@ -258,8 +260,8 @@ fn serve_line_in_folders<R: ServerSystem, I: Read, O: Write>(
     }
 }
 
-/// Makes the stacks of the drives in the arguments. They log failures on standard error. It fails
-/// only if an allocation fails.
+/// Makes the stacks of the drives in the arguments, with this bin. They log failures on standard
+/// error. It fails only if an allocation fails.
 fn stacks_with_warnings<R: ServerSystem>(
     rt: &R,
     line: &ServerLine<'_>,
@@ -268,7 +270,8 @@ fn stacks_with_warnings<R: ServerSystem>(
 ) -> io::Result<FolderStacks<R, Warnings<R>>>
     requires some { 1 ≤ length line.now.drives.items }
     requires few { length line.now.drives.items ≤ DRIVE_LIMIT }
-    ensures { IfOk result (λ s. length s.rows ≡ length line.now.drives.items) }
+    ensures named { IfOk result (λ s. s ≡ stacks_of line.now.drives.items bin.now line.now.capacity) }
+    ensures count { IfOk result (λ s. length s.rows ≡ length line.now.drives.items) }
 {
     let log = Warnings::new(rt.clone()?, start)?;
     let drives = line.drives.as_slice();
@@ -276,17 +279,18 @@ fn stacks_with_warnings<R: ServerSystem>(
 }
 
 /// Serves the streams with these stacks. Returns `End` with their status.
-fn serve_in_folders<R: ServerSystem, S: Stacks + Drop, I: Read, O: Write>(
+fn serve_in_folders<R: ServerSystem, I: Read, O: Write>(
     rt: &R,
     line: &ServerLine<'_>,
-    stacks: S,
+    stacks: FolderStacks<R, Warnings<R>>,
     input: &mut Counted<I>,
     output: &mut Counted<O>,
 ) -> io::Result<Begun<R>>
     requires streams { line.now.listen ≡ None }
     requires some { 1 ≤ length line.now.drives.items }
     requires few { length line.now.drives.items ≤ DRIVE_LIMIT }
-    requires enough { S.drives stacks ≤ length line.now.drives.items }
+    requires named { AreStacksOf line.now stacks }
+    requires enough { length stacks.rows ≤ length line.now.drives.items }
     ensures done { IfOk result (IsDone (streams_kind I.remaining O.contents) line.now
         (streams input.old output.old) (streams input.new output.new)) }
     ensures failed { OnErr result (AreUntouched (streams input.old output.old) (streams input.new output.new)) }

@@ -21,3 +21,4 @@ pub mod ServingRow
 pub mod Free
 pub mod Online
 pub mod Volumes
+pub mod Files

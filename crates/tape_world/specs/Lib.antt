@@ -1,4 +1,4 @@
--- In reading order: Making, Running, Telling, Entries, Volumes; Connections, Seen, Parts, Holding, Linking,
+-- In reading order: Making, Running, Telling, Entries, Volumes, Files; Connections, Seen, Parts, Holding, Linking,
 -- Calling, Talking, Hearing, Saving, Serving.
 pub mod Connections
 pub mod Seen
@@ -13,3 +13,4 @@ pub mod Telling
 pub mod Serving
 pub mod Entries
 pub mod Volumes
+pub mod Files

@@ -1,6 +1,7 @@
 //! A world: a server with its drives, all connections, and a client.
 
 mod reels;
+mod sums;
 mod telling;
 
 ghost use Rattle.std.specs.Prelude.{◌≡◌, IfOk, map};

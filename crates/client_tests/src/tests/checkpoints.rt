@@ -3,49 +3,83 @@
 
 use super::check_row;
 use super::fake::{FakePeer, Replies};
-use super::fixture::{Hidden, PayloadDumper, TWO_BYTES, client, line, payload};
+use super::fixture::{PayloadDumper, TWO_BYTES, client, line, payload};
 use super::lines::{EMPTY, FULL, LAST};
+use super::store::Kept;
 use dump_client::{Blocks, Client};
-use dump_run::{Checkpoint, Run, VolumeCount, push_checkpoint};
-use rdump_files::{ReplacedFile, ResumedDumpFault, WholeFile, resume_dump, run_of};
-use rdump_net::{Conclusion, CountBook, Keeper, dump_booked, dump_kept};
+use dump_run::{Checkpoint, VolumeCount, push_checkpoint};
+use exit_status::ExitStatus;
+use rdump_files::{
+    KeepFault, ReplacedFile, ResumedDumpFault, WholeFile, keep_checkpoint, resume_dump, run_of,
+};
+use rdump_net::{Conclusion, DumpObserver, Peer, Reply, dump_to_end};
 use rmt_wire::Counted;
 use std::alloc::Global;
 use std::fs;
 use std::test::Fail;
 
-/// A keeper in memory, which accepts `most` checkpoints. It keeps the text of the last, and counts
-/// them.
+/// An observer in memory. It keeps `most` checkpoints: it has the text of the last, and their
+/// number. It has the volumes that it was told of, and a letter for each call after the dump: `c` for
+/// `complete`, `e` for `enter`, `f` for `forget`.
 #[derive(Drop)]
-struct Texts {
+struct Watch {
+    most: usize,
+    reply: Reply,
+    enters: bool,
     last: Vec<u8>,
     count: usize,
-    most: usize,
+    told: Vec<VolumeCount>,
+    settled: Vec<u8>,
 }
 
-impl Texts {
-    /// Makes a keeper without a checkpoint.
-    fn new(alloc: Global, most: usize) -> Self {
-        Texts {
+impl Watch {
+    /// Makes an observer that was told of nothing, and keeps this many checkpoints. It gives this
+    /// answer to each question, and enters a dump in dumpdates if `enters` is true.
+    fn new(alloc: Global, most: usize, reply: Reply, enters: bool) -> Self {
+        Watch {
+            most,
+            reply,
+            enters,
             last: Vec::new(alloc),
             count: 0,
-            most,
+            told: Vec::new(alloc),
+            settled: Vec::new(alloc),
         }
     }
 }
 
-impl Keeper for Texts {
-    ghost puts = { λ _ _. ⊥ };
+impl<B: Blocks, P: Peer> DumpObserver<B, P> for Watch {
+    ghost logs = { λ _ _. ⊥ };
 
-    ghost can_fail = { λ _. Unit {0} };
+    ghost can_stop = { λ _. Unit {0} };
 
-    fn keep(&mut self, run: &Run, counts: &[VolumeCount]) -> bool {
+    fn counted(&mut self, _client: &Client<B>, count: VolumeCount) {
+        let _ = self.told.push(count);
+    }
+
+    fn keep(&mut self, client: &Client<B>) -> bool {
         if self.count >= self.most {
             return false;
         }
         self.count = self.count.saturating_add(1);
         self.last.clear();
-        push_checkpoint(run, counts, &mut self.last).is_ok()
+        push_checkpoint(client.run(), client.counted(), &mut self.last).is_ok()
+    }
+
+    fn answer(&mut self) -> Reply {
+        self.reply
+    }
+
+    fn complete(&mut self, _client: &Client<B>) -> bool {
+        self.settled.push(b'c').is_ok()
+    }
+
+    fn enter(&mut self, _client: &Client<B>) -> bool {
+        self.settled.push(b'e').is_ok() && self.enters
+    }
+
+    fn forget(&mut self) -> bool {
+        self.settled.push(b'f').is_ok()
     }
 }
 
@@ -59,80 +93,134 @@ const ONE: &[u8] =
 const BOTH: &[u8] =
     b"rdump 1\ndevice /dev/st0\nfs /usr\nlevel 1\ndate 951868800\nsince 951782400\nblock 2\nblocks 3\ncounted 1 0 2\ncounted 2 2 1\n";
 
-/// The replies of each connection, the number of accepted checkpoints, what is printed, and how the
-/// dump ends. Then the number of kept checkpoints, and the text of the last.
+/// A complete dump of two volumes.
+const COMPLETE: &[u8] =
+    b"volume 1: 2 blocks from 0\nvolume 2: 1 blocks from 2\ndump complete: 2 volumes, 3 blocks\n";
+
+/// The replies of each connection, the number of checkpoints that can be kept, the answer to
+/// questions, and whether the dump is entered. What is printed, and how the dump ends. Then the
+/// number of kept checkpoints, the text of the last, and the calls after the dump.
 struct Row {
     connections: &'static [Replies],
     most: usize,
+    reply: Reply,
+    enters: bool,
     printed: &'static [u8],
-    end: Conclusion,
+    conclusion: Conclusion,
+    status: ExitStatus,
     count: usize,
     last: &'static [u8],
+    settled: &'static [u8],
 }
 
-/// Two volumes, and a dump that is abandoned. Then keepers that accept nothing, only the first
-/// checkpoint, and all but the last.
-static ROWS: [Row; 5] = [
+/// In order:
+/// - two volumes; also if the dump cannot be entered.
+/// - a dump that is abandoned, and one that is left.
+/// - observers that keep nothing, only the first checkpoint, and all but the last.
+static ROWS: [Row; 7] = [
     Row {
         connections: &[FULL, LAST],
         most: 3,
-        printed: b"volume 1: 2 blocks from 0\nvolume 2: 1 blocks from 2\ndump complete: 2 volumes, 3 blocks\n",
-        end: Conclusion::Complete,
+        reply: Reply::Abandon,
+        enters: true,
+        printed: COMPLETE,
+        conclusion: Conclusion::Complete,
+        status: ExitStatus::Success,
         count: 3,
         last: BOTH,
+        settled: b"cef",
+    },
+    Row {
+        connections: &[FULL, LAST],
+        most: 3,
+        reply: Reply::Abandon,
+        enters: false,
+        printed: b"volume 1: 2 blocks from 0\nvolume 2: 1 blocks from 2\ndump complete: 2 volumes, 3 blocks\ndumpdates not updated\n",
+        conclusion: Conclusion::Complete,
+        status: ExitStatus::Abnormal,
+        count: 3,
+        last: BOTH,
+        settled: b"ce",
     },
     Row {
         connections: &[FULL, EMPTY],
         most: 3,
+        reply: Reply::Abandon,
+        enters: true,
         printed: b"volume 1: 2 blocks from 0\nvolume 2 failed: Refused 6\nretry?\ndump abandoned\n",
-        end: Conclusion::Abandoned,
+        conclusion: Conclusion::Abandoned,
+        status: ExitStatus::Abnormal,
         count: 2,
         last: ONE,
+        settled: b"f",
+    },
+    Row {
+        connections: &[FULL, EMPTY],
+        most: 3,
+        reply: Reply::Leave,
+        enters: true,
+        printed: b"volume 1: 2 blocks from 0\nvolume 2 failed: Refused 6\nretry?\n",
+        conclusion: Conclusion::Left,
+        status: ExitStatus::Abnormal,
+        count: 2,
+        last: ONE,
+        settled: b"",
     },
     Row {
         connections: &[FULL, LAST],
         most: 0,
+        reply: Reply::Abandon,
+        enters: true,
         printed: b"checkpoint not written\n",
-        end: Conclusion::Unkept,
+        conclusion: Conclusion::Unkept,
+        status: ExitStatus::Abnormal,
         count: 0,
         last: b"",
+        settled: b"",
     },
     Row {
         connections: &[FULL, LAST],
         most: 1,
+        reply: Reply::Abandon,
+        enters: true,
         printed: b"volume 1: 2 blocks from 0\ncheckpoint not written\n",
-        end: Conclusion::Unkept,
+        conclusion: Conclusion::Unkept,
+        status: ExitStatus::Abnormal,
         count: 1,
         last: NONE,
+        settled: b"",
     },
     Row {
         connections: &[FULL, LAST],
         most: 2,
+        reply: Reply::Abandon,
+        enters: true,
         printed: b"volume 1: 2 blocks from 0\nvolume 2: 1 blocks from 2\ncheckpoint not written\n",
-        end: Conclusion::Unkept,
+        conclusion: Conclusion::Unkept,
+        status: ExitStatus::Abnormal,
         count: 2,
         last: ONE,
+        settled: b"",
     },
 ];
+
+/// Whether the observer kept the checkpoints of the row, and had the calls of the row.
+fn has_watched(watch: &Watch, row: &Row) -> bool {
+    watch.count == row.count
+        && watch.last.as_slice() == row.last
+        && watch.settled.as_slice() == row.settled
+}
 
 /// Whether a dump by this client goes as the row says.
 fn goes(alloc: Global, client: &mut PayloadDumper, row: &Row) -> bool {
     let mut peer = FakePeer::new(alloc, row.connections);
-    let mut keeper = Texts::new(alloc, row.most);
-    let mut operator: &[u8] = b"";
+    let mut watch = Watch::new(alloc, row.most, row.reply, row.enters);
     let mut printed = Vec::new(alloc);
     let mut out = Counted::new(&mut printed);
-    let end = dump_kept(
-        alloc,
-        client,
-        &mut peer,
-        &mut operator,
-        &mut out,
-        &mut keeper,
-    );
-    let is_put = keeper.count == row.count && keeper.last.as_slice() == row.last;
-    end == row.end
-        && is_put
+    let end = dump_to_end(alloc, client, &mut peer, &mut watch, &mut out);
+    end.conclusion == row.conclusion
+        && end.status == row.status
+        && has_watched(&watch, row)
         && printed.as_slice() == row.printed
         && peer.sent.is_empty() == (row.most == 0)
 }
@@ -152,20 +240,6 @@ fn checkpoints_that_are_kept(rt: HostRuntime) {
     }
 }
 
-/// A book in memory: the volumes that were entered, in order.
-#[derive(Drop)]
-struct Entered {
-    counts: Vec<VolumeCount>,
-}
-
-impl<B: Blocks> CountBook<B> for Entered {
-    ghost entered = { λ _ _. ⊥ };
-
-    fn enter(&mut self, _client: &Client<B>, count: VolumeCount) {
-        let _ = self.counts.push(count);
-    }
-}
-
 /// The volumes of a dump of three blocks, two of which fit on the first reel.
 const VOLUMES: [VolumeCount; 2] = [
     VolumeCount {
@@ -180,35 +254,44 @@ const VOLUMES: [VolumeCount; 2] = [
     },
 ];
 
-/// Whether a complete dump by this client enters both volumes in the book.
-fn enters_both(alloc: Global, client: &mut PayloadDumper) -> bool {
+/// Whether the observer of a complete dump by this client is told of both volumes.
+fn tells_both(alloc: Global, client: &mut PayloadDumper) -> bool {
     let mut peer = FakePeer::new(alloc, &[FULL, LAST]);
-    let mut keeper = Texts::new(alloc, 3);
-    let mut book = Entered {
-        counts: Vec::new(alloc),
-    };
-    let mut operator: &[u8] = b"";
+    let mut watch = Watch::new(alloc, 3, Reply::Abandon, true);
     let mut printed = Vec::new(alloc);
     let mut out = Counted::new(&mut printed);
-    let end = dump_booked(
-        alloc,
-        client,
-        &mut peer,
-        &mut operator,
-        &mut out,
-        &mut keeper,
-        &mut book,
-    );
-    end == Conclusion::Complete && book.counts.as_slice() == VOLUMES.as_slice()
+    let end = dump_to_end(alloc, client, &mut peer, &mut watch, &mut out);
+    end.conclusion == Conclusion::Complete && watch.told.as_slice() == VOLUMES.as_slice()
 }
 
 #[test]
-fn volumes_that_are_entered(rt: HostRuntime) {
-    let entered = match client(rt.alloc(), TWO_BYTES) {
-        Some(mut client) => enters_both(rt.alloc(), &mut client),
+fn volumes_that_are_told(rt: HostRuntime) {
+    let told = match client(rt.alloc(), TWO_BYTES) {
+        Some(mut client) => tells_both(rt.alloc(), &mut client),
         None => false,
     };
-    assert!(rt; entered);
+    assert!(rt; told);
+}
+
+/// Whether the checkpoint of a new client is put into a file, and a file that cannot be replaced is
+/// told of.
+fn puts(alloc: Global, client: &PayloadDumper) -> bool {
+    let (mut file, mut full) = (
+        Kept::new(alloc, Ok(None), true),
+        Kept::new(alloc, Ok(None), false),
+    );
+    let kept = keep_checkpoint(alloc, &mut file, client.run(), client.counted());
+    let unkept = keep_checkpoint(alloc, &mut full, client.run(), client.counted());
+    kept == Ok(()) && file.put.as_slice() == NONE && unkept == Err(KeepFault::Unwritten)
+}
+
+#[test]
+fn a_checkpoint_in_a_file(rt: HostRuntime) {
+    let is_put = match client(rt.alloc(), TWO_BYTES) {
+        Some(client) => puts(rt.alloc(), &client),
+        None => false,
+    };
+    assert!(rt; is_put);
 }
 
 /// Resumes a dump from the checkpoint with this text. Returns the number of counted volumes and of
@@ -217,12 +300,10 @@ fn comes_back(alloc: Global, text: &[u8]) -> Option<Result<(usize, u32), Resumed
     let payload = payload(alloc, TWO_BYTES)?;
     let run = run_of(&line(TWO_BYTES), 0, 0, &payload).ok()?;
     let checkpoint = Checkpoint::read(alloc, text).ok()?;
-    Some(
-        match resume_dump(alloc, &run, checkpoint, payload, Hidden, true) {
-            Ok(client) => Ok((client.counted().len(), client.checkpoint().1)),
-            Err(fault) => Err(fault),
-        },
-    )
+    Some(match resume_dump(alloc, &run, checkpoint, payload, true) {
+        Ok(client) => Ok((client.counted().len(), client.checkpoint().1)),
+        Err(fault) => Err(fault),
+    })
 }
 
 /// The checkpoint of a dump at another level.

@@ -3,7 +3,7 @@
 use super::check_row;
 use super::store::{ENTERED, FIRST, Held, Kept, OLD};
 use dumpdates::{DatesFault, Entry};
-use rdump_files::{FileFailed, ReplacedFile, UpdateFault, WholeFile, base_date, date_text, update};
+use rdump_files::{FileFailed, ReplacedFile, UpdateFault, WholeFile, date_text, update};
 use rmt_wire::Counted;
 use std::alloc::Global;
 use std::fs;
@@ -49,13 +49,6 @@ fn dumps_that_are_entered_or_not(rt: HostRuntime) {
     for (at, row) in ROWS.iter().enumerate() {
         check_row(&rt, at, enters(rt.alloc(), row));
     }
-}
-
-#[test]
-fn a_base_date(rt: HostRuntime) {
-    let mut room = [0; 1];
-    let mut out = Counted::new(room.as_mut_slice());
-    assert!(rt; base_date(rt.alloc(), OLD, "/usr", 2, &mut out) == Ok(951782400));
 }
 
 #[test]

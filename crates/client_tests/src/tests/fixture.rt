@@ -4,8 +4,9 @@ ghost use Rattle.std.specs.Prelude.{◌≡◌, IfSome};
 
 use dump_client::Client;
 use rdump_args::DumpLine;
-use rdump_files::{Gauge, PayloadFile, Shown, dumper};
+use rdump_files::{PayloadFile, dumper_of, run_of};
 use std::alloc::Global;
+use std::time::Duration;
 use tape::MemoryMedium;
 use volume_sum::Summed;
 
@@ -14,24 +15,11 @@ pub(super) const TWO_BYTES: u64 = 2;
 
 pub(super) const DEVICE: &[u8] = b"/dev/st0";
 
-/// A gauge that shows nothing.
-#[derive(Drop)]
-pub(super) struct Hidden;
-
-impl Gauge for Hidden {
-    fn begin(&mut self, _blocks: u32) {}
-
-    fn begin_volume(&mut self, _volume: u32, _first: u32) {}
-
-    fn show(&mut self, _block: u32, _bytes: usize) {}
-}
-
 /// A payload on a medium in memory.
 pub(super) type Payload = PayloadFile<MemoryMedium>;
 
-/// A client that reads its blocks from a payload, and can sum its volumes. Its progress is not
-/// shown.
-pub(super) type PayloadDumper = Client<Summed<Shown<Payload, Hidden>>>;
+/// A client that reads its blocks from a payload, and can sum its volumes.
+pub(super) type PayloadDumper = Client<Summed<Payload>>;
 
 /// The arguments of a dump of `/usr` at level 1, in blocks of this size.
 pub(super) fn line(block: u64) -> DumpLine<'static>
@@ -44,6 +32,8 @@ pub(super) fn line(block: u64) -> DumpLine<'static>
         fs: "/usr",
         level: 1,
         payload: "payload",
+        spool: None,
+        allow_empty: false,
         block,
         dumpdates: "dumpdates",
         date: None,
@@ -51,6 +41,8 @@ pub(super) fn line(block: u64) -> DumpLine<'static>
         catalog: None,
         update: true,
         protect: false,
+        retry: None,
+        pause: Duration::ZERO,
     }
 }
 
@@ -65,6 +57,6 @@ pub(super) fn payload(alloc: Global, block_bytes: u64) -> Option<Payload>
 /// Makes a client that dumps these bytes, in blocks of this many bytes.
 pub(super) fn client(alloc: Global, block_bytes: u64) -> Option<PayloadDumper> {
     let payload = payload(alloc, block_bytes)?;
-    let line = line(block_bytes);
-    dumper(alloc, &line, 951868800, 951782400, payload, Hidden).ok()
+    let run = run_of(&line(block_bytes), 951868800, 951782400, &payload).ok()?;
+    dumper_of(alloc, run, payload, false).ok()
 }

@@ -1,13 +1,11 @@
-//! Dumps over a peer with given replies: what is printed, and what is then entered in dumpdates.
+//! Dumps over a peer with given replies: what is printed.
 
 use super::check_row;
 use super::fake::{FakePeer, Replies};
 use super::fixture::{PayloadDumper, TWO_BYTES, client};
-use super::store::{ENTERED, Held, Kept, OLD};
 use dump_client::AttemptFault;
-use dumpdates::DatesFault;
-use rdump_files::{FileFailed, UpdateFault, dump_and_update};
-use rdump_net::failure_line;
+use exit_status::ExitStatus;
+use rdump_net::{dump, failure_line};
 use rmt_wire::Counted;
 use std::alloc::Global;
 
@@ -37,116 +35,62 @@ const COUNTED: Replies = &[
 /// A drive without a reel.
 pub(super) const EMPTY: Replies = &[b"E6\nDevice not configured\n"];
 
-/// A dump of three blocks: the replies of each connection, the operator's input, and the result of
-/// reading the dumpdates file. Then what is printed, the exit status, why the dump is not entered,
-/// and the text that replaces the file.
+/// A dump of three blocks: the replies of each connection, and the operator's input. Then what is
+/// printed, and the exit status.
 struct Row {
     connections: &'static [Replies],
     said: &'static [u8],
-    held: Held,
     printed: &'static [u8],
-    status: u8,
-    fault: Option<UpdateFault>,
-    dates: &'static [u8],
+    status: ExitStatus,
 }
 
-/// What is printed for two volumes of a dump that is not entered.
-const UNENTERED: &[u8] =
-    b"volume 1: 2 blocks from 0\nvolume 2: 1 blocks from 2\ndump complete: 2 volumes, 3 blocks\ndumpdates not updated\n";
-
 /// In order:
-/// - two volumes; also if the dumpdates file has become bad, and if it cannot be read.
+/// - two volumes.
 /// - a dump that is abandoned.
 /// - a retry: the second connection is made after `yes`, and the third cannot be made.
 /// - a reel that is too small.
 /// - a counted reel that was put on the stack again.
-static ROWS: [Row; 7] = [
+static ROWS: [Row; 5] = [
     Row {
         connections: &[FULL, LAST],
         said: b"",
-        held: Ok(Some(OLD)),
         printed: b"volume 1: 2 blocks from 0\nvolume 2: 1 blocks from 2\ndump complete: 2 volumes, 3 blocks\n",
-        status: 0,
-        fault: None,
-        dates: ENTERED,
-    },
-    Row {
-        connections: &[FULL, LAST],
-        said: b"",
-        held: Ok(Some(b"\n/usr")),
-        printed: UNENTERED,
-        status: 3,
-        fault: Some(UpdateFault::Dates(DatesFault::BadLine(2))),
-        dates: b"",
-    },
-    Row {
-        connections: &[FULL, LAST],
-        said: b"",
-        held: Err(FileFailed),
-        printed: UNENTERED,
-        status: 3,
-        fault: Some(UpdateFault::Unread),
-        dates: b"",
+        status: ExitStatus::Success,
     },
     Row {
         connections: &[FULL, EMPTY],
         said: b"",
-        held: Ok(Some(OLD)),
         printed: b"volume 1: 2 blocks from 0\nvolume 2 failed: Refused 6\nretry?\ndump abandoned\n",
-        status: 3,
-        fault: None,
-        dates: b"",
+        status: ExitStatus::Abnormal,
     },
     Row {
         connections: &[EMPTY, FULL],
         said: b"yes\nno\n",
-        held: Ok(Some(OLD)),
         printed: b"volume 1 failed: Refused 6\nretry?\nvolume 1: 2 blocks from 0\nvolume 2 failed: ConnectionEnded\nretry?\ndump abandoned\n",
-        status: 3,
-        fault: None,
-        dates: b"",
+        status: ExitStatus::Abnormal,
     },
     Row {
         connections: &[SMALL],
         said: b"",
-        held: Ok(Some(OLD)),
         printed: b"volume 1 failed: ReelTooSmall\nretry?\ndump abandoned\n",
-        status: 3,
-        fault: None,
-        dates: b"",
+        status: ExitStatus::Abnormal,
     },
     Row {
         connections: &[FULL, COUNTED, LAST],
         said: b"yes\n",
-        held: Ok(Some(OLD)),
         printed: b"volume 1: 2 blocks from 0\nvolume 2 failed: CountedReel 1\nretry?\nvolume 2: 1 blocks from 2\ndump complete: 2 volumes, 3 blocks\n",
-        status: 0,
-        fault: None,
-        dates: ENTERED,
+        status: ExitStatus::Success,
     },
 ];
 
-/// Dumps over this peer, and enters the dump if it is complete. Returns whether it prints what the
-/// row says, with its status.
-fn prints(
-    alloc: Global,
-    client: &mut PayloadDumper,
-    peer: &mut FakePeer,
-    store: &mut Kept,
-    row: &Row,
-) -> bool {
+/// Whether a dump of this client goes as the row says.
+fn goes(alloc: Global, client: &mut PayloadDumper, row: &Row) -> bool {
+    let mut peer = FakePeer::new(alloc, row.connections);
     let mut operator = row.said;
     let mut printed = Vec::new(alloc);
     let mut out = Counted::new(&mut printed);
-    let end = dump_and_update(alloc, client, peer, &mut operator, &mut out, store);
-    end.status.code() == row.status && end.fault == row.fault && printed.as_slice() == row.printed
-}
-
-/// Whether a dump of this client goes as the row says.
-fn goes(alloc: Global, client: &mut PayloadDumper, row: &Row) -> bool {
-    let mut store = Kept::new(alloc, row.held, true);
-    let mut peer = FakePeer::new(alloc, row.connections);
-    prints(alloc, client, &mut peer, &mut store, row) && store.put.as_slice() == row.dates
+    let status = dump(alloc, client, &mut peer, &mut operator, &mut out);
+    status == row.status && printed.as_slice() == row.printed
 }
 
 /// Runs `goes` with a new client.

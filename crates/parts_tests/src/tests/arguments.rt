@@ -17,7 +17,7 @@ fn is_shown<T: Debug>(alloc: Global, value: &T, wanted: &str) -> bool {
 /// Arguments of `rdump`, and the text of what is read from them.
 type Row = (&'static [&'static str], &'static str);
 
-static ROWS: [Row; 14] = [
+static ROWS: [Row; 15] = [
     (
         &["rdump", "dates", "--file", "f"],
         "Ok(Dates { file: \"f\", asked: None })",
@@ -49,8 +49,10 @@ static ROWS: [Row; 14] = [
             "--catalog=s",
             "--update",
             "--protect",
+            "--retry=1000000",
+            "--pause=86400",
         ],
-        "Ok(Dump(DumpLine { to: \"h:1\", device: \"d\", timeout: Some(9223372036854775807s), fs: \"/usr\", level: 1, payload: \"p\", block: 1024, dumpdates: \"f\", date: Some(9223372036854775807), checkpoint: Some(\"c\"), catalog: Some(\"s\"), update: true, protect: true }))",
+        "Ok(Dump(DumpLine { to: \"h:1\", device: \"d\", timeout: Some(9223372036854775807s), fs: \"/usr\", level: 1, payload: \"p\", spool: None, allow_empty: false, block: 1024, dumpdates: \"f\", date: Some(9223372036854775807), checkpoint: Some(\"c\"), catalog: Some(\"s\"), update: true, protect: true, retry: Some(1000000), pause: 86400s }))",
     ),
     (
         &[
@@ -96,7 +98,11 @@ static ROWS: [Row; 14] = [
     ),
     (
         &["rdump", "cat", "r", "--level=0", "--length=5"],
-        "Ok(Cat(CatLine { paths: [\"r\"], name: None, level: Some(0), date: None, catalog: None, length: Some(5), is_partial: false }))",
+        "Ok(Cat(CatLine { paths: [\"r\"], name: None, level: Some(0), date: None, catalogs: [], length: Some(5), is_partial: false }))",
+    ),
+    (
+        &["rdump", "cat", "--catalog=d", "r", "--catalog", "c"],
+        "Ok(Cat(CatLine { paths: [\"r\"], name: None, level: None, date: None, catalogs: [\"d\", \"c\"], length: None, is_partial: false }))",
     ),
     (
         &[
@@ -119,11 +125,16 @@ static ROWS: [Row; 14] = [
             "--device=d",
             "--fs=/",
             "--level=0",
-            "--payload=p",
+            "--payload",
+            "-",
+            "--spool=s",
+            "--allow-empty",
             "--block=1",
             "--dumpdates=f",
+            "--retry",
+            "1",
         ],
-        "Ok(Dump(DumpLine { to: \"unix:/s\", device: \"d\", timeout: Some(1s), fs: \"/\", level: 0, payload: \"p\", block: 1, dumpdates: \"f\", date: None, checkpoint: None, catalog: None, update: false, protect: false }))",
+        "Ok(Dump(DumpLine { to: \"unix:/s\", device: \"d\", timeout: Some(1s), fs: \"/\", level: 0, payload: \"-\", spool: Some(\"s\"), allow_empty: true, block: 1, dumpdates: \"f\", date: None, checkpoint: None, catalog: None, update: false, protect: false, retry: Some(1), pause: 60s }))",
     ),
     (
         &[
@@ -169,7 +180,7 @@ fn arguments_of_the_client(rt: HostRuntime) {
 }
 
 /// Arguments that are refused, and the first line of the message.
-static REFUSED: [Row; 15] = [
+static REFUSED: [Row; 22] = [
     (
         &["rdump", "ls"],
         "error: a FILE or a FOLDER is required, or --to and --device",
@@ -251,6 +262,113 @@ static REFUSED: [Row; 15] = [
             "--timeout=",
         ],
         "error: invalid value for '--timeout <SECONDS>': a number is 0 to 9223372036854775807 in digits",
+    ),
+    (
+        &[
+            "rdump",
+            "dump",
+            "--to=h:1",
+            "--device=d",
+            "--fs=/",
+            "--level=0",
+            "--block=1",
+            "--dumpdates=f",
+            "--payload=p",
+            "--spool=s",
+        ],
+        "error: --spool and --allow-empty are given with --payload - only",
+    ),
+    (
+        &[
+            "rdump",
+            "dump",
+            "--to=h:1",
+            "--device=d",
+            "--fs=/",
+            "--level=0",
+            "--block=1",
+            "--dumpdates=f",
+            "--payload=./-",
+            "--allow-empty",
+        ],
+        "error: --spool and --allow-empty are given with --payload - only",
+    ),
+    (
+        &[
+            "rdump",
+            "dump",
+            "--to=h:1",
+            "--device=d",
+            "--fs=/",
+            "--level=0",
+            "--block=1",
+            "--dumpdates=f",
+            "--payload=-",
+            "--spool=s",
+            "--checkpoint=c",
+        ],
+        "error: --spool or --checkpoint is given, and not both",
+    ),
+    (
+        &[
+            "rdump",
+            "dump",
+            "--to=h:1",
+            "--device=d",
+            "--fs=/",
+            "--level=0",
+            "--block=1",
+            "--dumpdates=f",
+            "--payload=p",
+            "--pause=1",
+        ],
+        "error: the following required arguments were not provided:",
+    ),
+    (
+        &[
+            "rdump",
+            "dump",
+            "--to=h:1",
+            "--device=d",
+            "--fs=/",
+            "--level=0",
+            "--block=1",
+            "--dumpdates=f",
+            "--payload=p",
+            "--retry=0",
+        ],
+        "error: invalid value for '--retry <TIMES>': it is 1 to 1000000, in digits",
+    ),
+    (
+        &[
+            "rdump",
+            "dump",
+            "--to=h:1",
+            "--device=d",
+            "--fs=/",
+            "--level=0",
+            "--block=1",
+            "--dumpdates=f",
+            "--payload=p",
+            "--retry=1000001",
+        ],
+        "error: invalid value for '--retry <TIMES>': it is 1 to 1000000, in digits",
+    ),
+    (
+        &[
+            "rdump",
+            "dump",
+            "--to=h:1",
+            "--device=d",
+            "--fs=/",
+            "--level=0",
+            "--block=1",
+            "--dumpdates=f",
+            "--payload=p",
+            "--retry=1",
+            "--pause=86401",
+        ],
+        "error: invalid value for '--pause <SECONDS>': a pause is 0 to 86400 seconds, in digits",
     ),
 ];
 

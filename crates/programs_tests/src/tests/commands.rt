@@ -3,14 +3,14 @@
 
 use super::check_row;
 use super::exit_codes::DATES;
-use super::fixture::client;
 use exit_status::ExitStatus;
 use rdump_args::{DumpLine, MtLine, ReadLine};
-use rdump_commands::{rdump, run_arguments, run_client, run_dates, run_dump, run_mt, run_read};
+use rdump_commands::{rdump, run_arguments, run_dates, run_dump, run_mt, run_read};
 use std::fs;
 use std::io::Stderr;
 use std::os::unix::fs::symlink;
 use std::test::Fail;
+use std::time::Duration;
 
 /// No terminal on which progress would be shown.
 pub(super) const NO_TERMINAL: Option<Stderr> = None;
@@ -73,6 +73,8 @@ static DUMP: DumpLine<'static> = DumpLine {
     fs: "/usr",
     level: 1,
     payload: "payload",
+    spool: None,
+    allow_empty: false,
     block: 2,
     dumpdates: "dumpdates",
     date: None,
@@ -80,6 +82,8 @@ static DUMP: DumpLine<'static> = DumpLine {
     catalog: None,
     update: true,
     protect: false,
+    retry: None,
+    pause: Duration::ZERO,
 };
 
 #[test]
@@ -87,20 +91,18 @@ fn a_payload_that_is_not_there(rt: HostRuntime) {
     assert!(rt; run_dump(&rt, &DUMP, NO_TERMINAL) == ExitStatus::StartupError);
 }
 
-/// Whether a dump ends with `Abnormal`, because there is no server and the operator's input is
-/// empty.
-fn is_abandoned(rt: &HostRuntime) -> bool {
-    match client(rt.alloc()) {
-        Some(mut client) => {
-            run_client(rt, &DUMP, &mut client, NO_TERMINAL) == ExitStatus::Abnormal
-        }
-        None => false,
-    }
-}
-
+/// The operator's input is empty, so the dump is abandoned.
 #[test]
-fn a_dump_to_no_server(rt: HostRuntime) {
-    assert!(rt; is_abandoned(&rt));
+fn a_dump_to_no_server(rt: HostRuntime) -> Result<(), Fail> {
+    fs::write(&rt, "there", b"abc")?;
+    let line = DumpLine {
+        payload: "there",
+        ..DUMP
+    };
+    let status = run_dump(&rt, &line, NO_TERMINAL);
+    fs::remove_file(&rt, "there")?;
+    assert!(rt; status == ExitStatus::Abnormal);
+    Ok(())
 }
 
 /// The output file is removed if no label was read.

@@ -1,5 +1,6 @@
 //! Seats at one table, in one thread and in many.
 
+mod among;
 mod ended;
 mod law;
 mod pair;

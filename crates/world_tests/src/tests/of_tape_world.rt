@@ -9,4 +9,5 @@ mod moments;
 mod place;
 mod reels;
 mod rows;
+mod sums;
 mod world;

@@ -1,13 +1,14 @@
-use Rattle.rdump_net.proofs.Words.{◌≡◌, [], checkpoint_of, failed, failure_lines, none}
-use Rattle.dump_client.specs.declared.fault.AttemptFault.TheVariants.{OutOfMemory}
-use Rattle.rdump_net.proofs.Printed.{nothing_printed}
+use Rattle.rdump_net.proofs.Printed.{cut_short, lines_since, round_after}
 use Rattle.rdump_net.proofs.rounds.report.Goals as goal
 
-pub returns-in-Over-clause-printed : goal.returns-in-Over-clause-printed
-returns-in-Over-clause-printed g c = ([], none, nothing_printed g.W.Write.contents c.args.out.now)
+pub returns-then-not-print_since-clause-printed : goal.returns-then-not-print_since-clause-printed
+returns-then-not-print_since-clause-printed g c = λ first n grows.
+    let lines = lines_since first c.args.client.now.at.counts c.args.before n grows in
+    cut_short _ lines (rw c.if-not-print_since.true at c.print_since.ensures)
 
-pub ask_here-requires : goal.ask_here-requires
-ask_here-requires g c =
-    let e : c.as_bytes.result.now ≡ failure_lines (checkpoint_of c.args.client.now.at.counts).0 OutOfMemory =
-    (let a = c.as_bytes.ensures.value in let b = c.deref.ensures in let d = c.failure_of-lines.ensures in cc) in
-    rw e (failed OutOfMemory none)
+pub returns-clause-printed : goal.returns-clause-printed
+returns-clause-printed g c = λ first n grows.
+    let at = c.args.client.now.at in
+    let lines = lines_since first at.counts c.args.before n grows in
+    round_after g.W.Write.contents first at.counts at c.args.out.now c.print_since.new.out c.report_outcome.new.out _ c.report_outcome.result
+    lines (rw c.if-not-print_since.false at c.print_since.ensures) c.report_outcome.ensures.printed

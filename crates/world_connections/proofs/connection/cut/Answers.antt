@@ -3,6 +3,5 @@ use Rattle.world_connections.specs.Connection.{severed}
 use Rattle.world_connections.proofs.Linked.{put_connection}
 use Rattle.world_connections.proofs.connection.cut.Goals as goal
 
--- src/link.rt:84:5
 pub returns : goal.returns
 returns c = put_connection severed c.args.connections.now c.args.connection _ c.index-connections-connection.result c.requires.first c.requires.last refl

@@ -1,0 +1,12 @@
+-- A checkpoint is kept in a file. Public contracts cite it.
+use Rattle.std.specs.Prelude.{◌≡◌, ℕ, List, Result, Ok, Err}
+use Rattle.rdump_files.specs.WholeFile.{WholeFileKind}
+use Rattle.rdump_files.specs.declared.whole_file.FileFailed.{FileFailed}
+use Rattle.rdump_files.specs.declared.kept_checkpoint.KeepFault.{KeepFault}
+use Rattle.rdump_files.specs.declared.kept_checkpoint.KeepFault.TheVariants.{Unwritten, OutOfMemory}
+
+-- The file took this text, or could not. If an allocation failed, the file is unchanged.
+abbrev pub IsKept : {F : Type 0} → WholeFileKind F → List ℕ → F → F → Result Unit KeepFault → Type 0
+IsKept k text old new (Ok x) = k.takes old text (Ok x) new
+IsKept k text old new (Err Unwritten) = (failed : FileFailed) × k.takes old text (Err failed) new
+IsKept k text old new (Err OutOfMemory) = new ≡ old

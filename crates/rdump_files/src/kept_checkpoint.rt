@@ -1,0 +1,54 @@
+//! Keeps a checkpoint in a file.
+ghost use Rattle.std.specs.Prelude.{◌≡◌, IfOk};
+ghost use Rattle.dump_run.specs.Checkpoint.{checkpoint_text};
+ghost use Rattle.rdump_files.specs.Keeping.{IsKept};
+ghost use Rattle.rdump_files.specs.WholeFile.{whole_file};
+
+use crate::{FileFailed, WholeFile};
+use dump_run::{Run, VolumeCount, push_checkpoint};
+use std::alloc::{AllocError, Global};
+use thiserror::Error;
+
+/// Why a checkpoint was not kept.
+#[derive(Clone, Copy, Debug, PartialEq, Eq, Error)]
+pub enum KeepFault {
+    /// The file could not be replaced with the text.
+    #[error("it could not be replaced")]
+    Unwritten,
+    /// An allocation failed.
+    #[error("out of memory")]
+    OutOfMemory,
+}
+
+/// Replaces a file with the text of the checkpoint of this run, with these counted volumes.
+///
+/// Returns `Unwritten` if the replacement fails, and `OutOfMemory`, without trying it, if an
+/// allocation fails.
+pub fn keep_checkpoint<F: WholeFile>(
+    alloc: Global,
+    file: &mut F,
+    run: &Run,
+    counts: &[VolumeCount],
+) -> Result<(), KeepFault>
+    // Replaces the file once, with the text of the checkpoint that has the given run and the given
+    // counted volumes. The call succeeds if that succeeds. If an allocation fails, the call does
+    // not change the file.
+    ensures { IsKept (whole_file F.gives F.takes) (checkpoint_text run.now counts.now) file.old file.new result }
+{
+    let Ok(text) = text_of(alloc, run, counts) else {
+        return Err(KeepFault::OutOfMemory);
+    };
+    match file.replace(&text) {
+        Ok(()) => Ok(()),
+        Err(FileFailed) => Err(KeepFault::Unwritten),
+    }
+}
+
+/// Returns the text of a checkpoint. Fails only if an allocation fails.
+fn text_of(alloc: Global, run: &Run, counts: &[VolumeCount]) -> Result<Vec<u8>, AllocError>
+    ensures { IfOk result (λ text. text.items ≡ checkpoint_text run.now counts.now) }
+{
+    let mut text = Vec::new(alloc);
+    push_checkpoint(run, counts, &mut text)?;
+    Ok(text)
+}
