@@ -34,7 +34,7 @@ const QUICK_SETBACKS: u32 = 2;
 /// How long such an attempt waits, in seconds.
 const WAIT_SECONDS: u64 = 1;
 
-/// What a dump keeps until it is over.
+/// The files that a dump keeps until it is over.
 #[derive(Drop)]
 pub(crate) struct Kept<'a, R: ClientSystem> {
     /// The file of the checkpoint, which is held, if the dump keeps one.
@@ -43,7 +43,7 @@ pub(crate) struct Kept<'a, R: ClientSystem> {
     pub spool: Option<NamedSpool<'a, R>>,
 }
 
-/// What attends a dump. Its contracts state nothing of what is kept or printed.
+/// The observer of a dump. Its contracts state nothing of what is kept or printed.
 ///
 /// On a terminal, the line of progress is cleared before each message.
 #[derive(Drop)]

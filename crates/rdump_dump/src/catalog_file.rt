@@ -164,7 +164,7 @@ impl<'a, R: ClientSystem> CatalogFile<'a, R> {
     }
 }
 
-/// What is missing in the catalog of a dump, and why.
+/// A part of a dump that its catalog lacks, and why.
 #[derive(Drop)]
 pub(crate) enum Missing {
     /// All from now on: another run began the dump anew.

@@ -1,4 +1,4 @@
-//! What is printed of a dump's attempt that failed or must not begin.
+//! The messages about an attempt that failed or must not begin.
 
 use crate::shell_word::OfflineCommand;
 use dump_client::AttemptFault;
@@ -29,7 +29,7 @@ pub(crate) struct Failure<'l, 'a, 'e> {
 }
 
 impl<'a> Failure<'_, 'a, '_> {
-    /// What is at fault: the server's address, or the payload.
+    /// Returns what is at fault: the server's address, or the payload.
     pub(crate) fn subject(&self) -> &'a str {
         match self.fault {
             AttemptFault::SourceFault => self.line.payload,
@@ -94,7 +94,7 @@ pub(crate) enum Obstacle {
     Unseen(TapeFault),
 }
 
-/// What is printed of an obstacle.
+/// The message about an obstacle.
 #[derive(Clone, Copy)]
 pub(crate) struct ObstacleReport<'l, 'a, 'o, 'e> {
     /// The arguments of the dump.

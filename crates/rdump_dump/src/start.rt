@@ -1,4 +1,4 @@
-//! What a dump does before its first attempt.
+//! The start of a dump, before its first attempt.
 ghost use Rattle.std.specs.Prelude.{◌≡◌, IfOk};
 ghost use Rattle.rdump_files.specs.Payload.{IsRunsPayload};
 

@@ -27,7 +27,7 @@ pub(crate) enum StartFault<'a> {
     OutOfMemory,
     /// The system reports this error of the file at this path.
     System(&'a str, io::Error),
-    /// What is at fault, and why.
+    /// Something is at fault, for this reason.
     Unfit(&'a str, &'static str),
     /// The file at this path is also another one of the dump.
     Same(&'a str, SameFile),

@@ -1,4 +1,4 @@
-//! What a dump prints on standard error before its first attempt and at its end, besides faults.
+//! Messages before the first attempt and at the end of a dump, besides faults.
 
 use crate::shell_word::ShellWord;
 use crate::start::Start;

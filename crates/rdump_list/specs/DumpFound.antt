@@ -1,4 +1,4 @@
--- What is there of a dump of a catalog. Public contracts cite it.
+-- The state of a dump in a catalog. Public contracts cite it.
 use Rattle.std.specs.Prelude.{◌≡◌, ◌↔◌, ◌⊎◌, ℕ, ◌+◌, ◌<◌, ◌≤◌, List, [], All, Any, Contains, Option, Some, None}
 use Rattle.dump_run.specs.DumpId.{PlainId}
 use Rattle.catalog.specs.DumpLines.{PlainFinished}

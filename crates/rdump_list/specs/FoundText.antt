@@ -1,4 +1,4 @@
--- What is there of a dump of a catalog, in words. Public contracts cite it.
+-- The state of a dump in a catalog, in words. Public contracts cite it.
 use Rattle.std.specs.Prelude.{ℕ, ◌&&◌, List, [], ◌∷◌, ◌++◌, codes, decimal, flat_map, if◌then◌else◌, length, nat_eq, nat_lt}
 use Rattle.rdump_list.specs.declared.missing.VolumeRange.{VolumeRange}
 use Rattle.rdump_list.specs.declared.catalog_dump.CatalogDump.{CatalogDump}

@@ -32,7 +32,7 @@ IsEntered contents logs has_all false out o out' o' status =
     (whole : Bool) × LogsOn logs o o' (Completed has_all ∷ Entered false ∷ []) × IsPrinted contents unentered_line out out' whole
     × (status ≡ Abnormal)
 
--- What is done after a dump's conclusion, and the exit status. A complete dump is entered. The
+-- The steps after a dump's conclusion, and the exit status. A complete dump is entered. The
 -- checkpoint of an abandoned dump is forgotten. After any other conclusion nothing is done.
 abbrev pub IsSettled : {W O : Type 0} → (W → Option (List ℕ)) → (O → List DumpEvent → Type 0) → Conclusion
     → Counting W → O → Counting W → O → ExitStatus → Type 0

@@ -159,11 +159,12 @@ pub fn dump_to_end<B: Blocks, P: Peer, W: Write, O: DumpObserver<B, P>>(
     // the dump, the dump is entered, and the checkpoint is forgotten. Otherwise the status is
     // `Abnormal`.
     //
-    // All this holds if the observer's contract says what its log contains. No clause says that an
-    // observer stores a checkpoint's text, or writes a catalog. No clause forbids that the same
-    // checkpoint is kept twice, with no volume counted in between. No clause says when the observer
-    // is asked whether an attempt may begin, or what its answers do: none forbids that a dump is
-    // abandoned after the answer `Leave`.
+    // Promises about the log hold if the observer's contract says what its log contains. That of the
+    // observer of `rdump dump` does not: the tests in `tests/checks/catalog.py` show its order. No
+    // clause says that an observer stores a checkpoint's text, or writes a catalog. No clause forbids
+    // that the same checkpoint is kept twice, with no volume counted in between. No clause says when
+    // the observer is asked whether an attempt may begin, or what its answers do: none forbids that a
+    // dump is abandoned after the answer `Leave`.
     ensures ended { IsDumpEnded (kept_kind B.holds P.tells W.contents O.logs) (kept_ends client.old peer.old out.old observer.old)
         (kept_ends client.new peer.new out.new observer.new) result }
     // If the observer cannot stop the dump, the conclusion is neither `Unkept` nor `Left`.

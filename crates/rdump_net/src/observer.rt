@@ -1,4 +1,4 @@
-//! What attends a dump.
+//! The observer of a dump.
 ghost use Rattle.std.specs.Prelude.{◌≡◌, false, [], ◌∷◌};
 ghost use Rattle.rdump_net.specs.Keeping.{plain_checkpoint};
 ghost use Rattle.rdump_net.specs.Observing.{LogsOn, kept_if};
@@ -19,7 +19,7 @@ pub enum Reply {
     Leave,
 }
 
-/// What attends a dump: it is told what happens, keeps the checkpoint, and answers the questions.
+/// The observer of a dump: it is told what happens, keeps the checkpoint, and answers the questions.
 ///
 /// An implementation may log the events of the dump, in order (the ghost `logs`). Clauses about that
 /// log hold only if it does.
