@@ -7,7 +7,7 @@ SIMULATOR := crates/rsim/out/rsim
 FEED := crates/bench_feed/out/bench_feed
 RATIOS := out/bench.tsv
 PROGRAMS := rmtd rdump rsim
-TOOL_TESTS := $(addprefix tests.tools.,test_further test_gate test_promises test_counts test_bench test_imports test_tested)
+TOOL_TESTS := $(addprefix tests.tools.,test_further test_gate test_promises test_texts test_bench)
 # The logic of the kit with which all here is proved, as `rt version` prints it.
 LOGIC := dac8208d650f15bf
 
@@ -50,14 +50,14 @@ check: texts ## make test, and make edits beside the tests from outside, as .ci/
 	@python3 -m tests.tools.gate --edits
 
 texts: kit ## look at the documents, the edits and the Python, and test the tools
-	python3 -m tests.tools.style
+	@for it in flake8 "mypy --strict"; do \
+		if command -v $${it%% *} > /dev/null; then $$it tests bench packaging/deb.py || exit 1; else echo "skipped: $${it%% *} is not installed"; fi; done
 	python3 -m tests.tools.promises
 	python3 -m tests.tools.homes
 	python3 -m tests.tools.imports
 	python3 -m tests.tools.examples
 	python3 -m tests.tools.messages
 	python3 -m tests.tools.links
-	python3 -m tests.tools.tested
 	python3 -m unittest -q $(TOOL_TESTS)
 
 bench: build ## long streams, reels in folders, dumps beside a floor, a long dumpdates file, a long reel and its sum, long schedules, and bytes in pieces; it ends with a table of ratios, which make bench JSON=FILE also writes to FILE as JSON
@@ -67,6 +67,7 @@ bench: build ## long streams, reels in folders, dumps beside a floor, a long dum
 	python3 -m bench.reels $(SERVER)
 	python3 -m bench.dates $(CLIENT)
 	python3 -m bench.sums $(CLIENT)
+	python3 -m bench.list $(CLIENT)
 	python3 -m bench.dump $(SERVER) $(CLIENT)
 	python3 -m bench.network $(SERVER) $(CLIENT)
 	python3 -m bench.instructions $(SERVER) $(CLIENT)

@@ -1114,38 +1114,23 @@ class Texts(CatalogCase):
 # Its .new.
 
 
-def strangers(files: list[bytes]) -> tuple[bytes, ...]:
-    """Texts that no run left in place of the lines of these reels."""
-    text, line = text_for(files), line_of(files[0])
-    return (
-        *(b"an operator's own", b"an operator's own\n", b"\n", b"\0", bytes(512), random.Random(SEED).randbytes(3000)),
-        *(ENTRY.encode(), checkpoint.text_of(RUN, ONE)),
-        *(text + b"\n", text + b"# a note", b"# a note\n" + text, text.replace(b"\n", b"\r\n"), text.upper(), text + line[:70] + b"\0"),
-        *(line[:-1] + b": whole\n", line[:64] + b"  r001\n", text + line[:20] + b"g", text + line[:64] + b"x", text + line[:65] + b"x"),
-        *(BEGAN + b"begun  /usr", BEGAN[:-1] + b" more\n", b"begin", b"finished   ", BEGAN + b"finished  /usr level 0 date 1 since 0: 0 volumes\n"),
-    )
-
-
 class NewFiles(CatalogCase):
-    """A .new of another stays to the byte; one that rdump left, cut off anywhere, is taken away; one that is locked is waited for."""
+    """A .new that has a byte stays; an empty one is taken over; one that is locked is waited for."""
 
     def test_new_files_of_another(self) -> None:
-        for number, text in enumerate(strangers(FILES)):
-            self.p.file("catalog.new", text)
+        text = text_for(ONE_FILE)
+        for number, it in enumerate((b"own\n", b"\n", bytes(512), text, text[:-3], ENTRY.encode())):
+            self.p.file("catalog.new", it)
             told = re.escape("rdump: catalog.new: it is not one that rdump left: it is not touched\n")
             self.refused(f"a .new of another, {number}", told, *CATALOG)
 
-    def test_new_files_that_were_left(self) -> None:
-        """One line of each kind, or the second of two, is cut off anywhere."""
-        begins, line, ends = text_for(ONE_FILE).splitlines(keepends=True)
-        left = OLD + line
-        cuts = {it[:at] for it in (begins, line, ends) for at in range(len(it) + 1)} | {left[:at] for at in range(len(left) - 5, len(left) + 1)}
-        for at, text in enumerate(sorted(cuts)):
-            title = f"a .new that was left, {at}, of {len(text)} bytes"
-            self.kept.unlink(missing_ok=True)
-            self.p.file("catalog.new", text)
-            self.ends(title, self.dump([Reel("r1", 9000)], *CATALOG), printed([(0, 3)]), DONE)
-            self.same(f"{title}: it is gone", (self.lying(), self.catalog()), ([FILE], text_for(ONE_FILE)))
+    def test_what_was_left(self) -> None:
+        """An empty .new is taken over. A part of a text that was being written stays."""
+        self.p.file("catalog.new", b"")
+        self.p.file("catalog.new.1", BEGAN[:-3])
+        self.ends("what was left", self.dump([Reel("r1", 9000)], *CATALOG), printed([(0, 3)]), DONE)
+        files = self.lying(), self.catalog(), self.catalog("catalog.new.1")
+        self.same("what was left: the files", files, ([FILE, "catalog.new.1"], text_for(ONE_FILE), BEGAN[:-3]))
 
     def test_a_new_file_of_another_that_comes_late(self) -> None:
         title = "a .new of another that comes late"
@@ -1408,15 +1393,16 @@ class Calls(CatalogCase):
         )
         made = made_in(self.p.folder)
         in_order(self, made, wanted)
-        renames = [text for name, text in made if name == "rename" and f'{FILE}.new"' in text]
+        renames = [text for name, text in made if name == "rename" and f'{FILE}.new.1"' in text]
         self.same("under strace: the catalog is replaced once for a line", len(renames), 4, renames)
+        locks = [text for name, text in made if name == "flock" and f"/{FILE}.new>, LOCK_EX" in text]
+        self.same("under strace: it is locked for each, and at the start", len(locks), 5, locks)
 
     def replaced(self, name: str, text: str) -> tuple[tuple[str, str, str], ...]:
         """The calls that replace a file by a new one with this text."""
-        folder, new, old = re.escape(str(self.p.folder.resolve())), re.escape(f"{name}.new"), re.escape(name)
+        folder, new, old = re.escape(str(self.p.folder.resolve())), re.escape(f"{name}.new.1"), re.escape(name)
         return (
             (f"{old}: the new file is made", "open", rf'{new}", .*O_CREAT\|O_EXCL'),
-            (f"{old}: it is locked", "flock", rf"<{folder}/{new}>, LOCK_EX"),
             (f"{old}: the text is written", "write", rf"<{folder}/{new}>, .*{text}"),
             (f"{old}: it is synced", "fsync", rf"<{folder}/{new}>"),
             (f"{old}: it is renamed", "rename", rf'{new}".*{old}"'),

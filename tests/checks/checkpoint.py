@@ -57,7 +57,9 @@ REST = "".join(LINES[1:])
 NOT_WRITTEN = "checkpoint not written\n"
 OF_ANOTHER = "checkpoint is of another dump\n"
 NO_PLAIN_NEW = f"rdump: {FILE}: its .new is no plain file\n"
-LOCKED_NEW = f"rdump: {FILE}: its .new was locked for ten seconds\n"
+TAKEN = f"rdump: {FILE}: another run has it\n"
+# The lock, which is there while a dump runs, and stays if that is killed. A text that was being written may stay then too.
+LOCK, TEXT = f"{FILE}.new", f"{FILE}.new.1"
 
 # A lock that is held is told at once, and not waited for as that of dumpdates is.
 AT_ONCE_SECONDS = 8
@@ -206,6 +208,10 @@ class CheckpointCase(DumpCase):
     def is_gone(self, title: str) -> None:
         self.same(f"{title}: the file is gone", self.lying(), [])
 
+    def held(self) -> list[str]:
+        """The same, but for a text that is or was being written."""
+        return [it for it in self.lying() if it != TEXT]
+
     def stays(self, name: str, text: bytes) -> None:
         """The file has this text, and no other file lies beside it."""
         self.same(name, (kept(self.p), self.lying()), (text, [FILE]))
@@ -232,7 +238,7 @@ class WhatIsKept(CheckpointCase):
         seen: dict[int, tuple[bytes | None, list[str]]] = {}
 
         def look(number: int) -> None:
-            seen[number] = (kept(self.p), self.lying())
+            seen[number] = (kept(self.p), self.held())
 
         with Model(*two(), acts={number: partial(look, number) for number in range(1, ALL_REQUESTS + 1)}) as model:
             self.ends("a new dump", self.p.dump(model.address, *KEPT), TWO_VOLUMES, DONE)
@@ -240,7 +246,7 @@ class WhatIsKept(CheckpointCase):
         self.same("a new dump: each request was looked at", sorted(seen), list(range(1, ALL_REQUESTS + 1)))
         for number, (text, names) in seen.items():
             self.holds(f"a new dump: the file at request {number}", text in allowed(number), text)
-            self.same(f"a new dump: no other file at request {number}", names, [FILE])
+            self.same(f"a new dump: no other file at request {number}", names, [FILE, LOCK])
         self.is_gone("a new dump")
 
     def test_a_dump_without_the_word(self) -> None:
@@ -257,7 +263,8 @@ class WhatIsKept(CheckpointCase):
                 got = stopped_at(self.p, number, by=by)
                 self.same(f"{title}: the status", got.status, -by, got)
                 text = kept(self.p)
-                self.same(f"{title}: the file", (text in allowed(number), self.lying()), (True, [FILE]), text)
+                self.same(f"{title}: the files", (text in allowed(number), self.held()), (True, [FILE, LOCK]), text)
+                self.p.folder.joinpath(TEXT).unlink(missing_ok=True)
                 found = decoded(text or b"")
                 counts = found.counts if isinstance(found, Checkpoint) else NONE
                 printed = "".join(LINES[: len(counts)])
@@ -402,13 +409,6 @@ class WhatIsGoneOnWith(CheckpointCase):
         self.p.file(FILE, text_of(RUN, BOTH))
         self.completes("finished, and not to be entered", self.p.dump(NOWHERE, *KEPT))
         self.same("finished, and not to be entered: dumpdates", self.p.text("dumpdates"), None)
-
-    def test_finished_and_not_written_anew(self) -> None:
-        """Nothing is made beside it."""
-        self.p.folder.joinpath(f"{FILE}.new").mkdir()
-        self.p.file(FILE, text_of(RUN, BOTH))
-        got = self.p.dump(NOWHERE, *KEPT)
-        self.same("finished, which is not written anew", (got.output, got.status, self.lying()), (LINES[2], DONE, [f"{FILE}.new"]), got.told)
 
     def test_no_blocks(self) -> None:
         self.p.file("payload", b"")
@@ -587,43 +587,35 @@ class Unwritten(CheckpointCase):
         self.new = self.p.folder / f"{FILE}.new"
 
     def is_in_the_way(self, title: str, make: Callable[[], object], unmake: Callable[[], object]) -> None:
-        """What is made at the place of the new file keeps the file from being written, until it is taken away."""
+        """What is made at the place of the lock keeps a dump from starting, until it is taken away."""
         make()
-        self.not_written(title, self.p.dump(NOWHERE, *KEPT), "", None, NO_PLAIN_NEW)
+        self.fails(title, self.p.dump(NOWHERE, *KEPT), NO_PLAIN_NEW)
+        self.same(f"{title}: nothing is made", self.lying(), [LOCK])
         self.p.file(FILE, text_of(RUN, ONE))
-        got = self.p.dump(NOWHERE, *KEPT)
-        self.not_written(f"{title}, of a dump that goes on", got, "", text_of(RUN, ONE), NO_PLAIN_NEW)
-        self.holds(f"{title}, of a dump that goes on: that is told", going_on(ONE) in got.told, got)
-        os.remove(self.p.folder / FILE)
+        self.fails(f"{title}, of a dump that would go on", self.p.dump(NOWHERE, *KEPT), NO_PLAIN_NEW)
+        left = kept(self.p), self.lying(), self.p.text("nowhere"), self.p.bytes_of("payload")
+        self.same(f"{title}: the files", left, (text_of(RUN, ONE), [FILE, LOCK], None, PAYLOAD))
         unmake()
-        got = acted_on(self.p, 3, lambda run: make(), False)
-        self.not_written(f"{title}, after a count", got, LINES[0], text_of(RUN), NO_PLAIN_NEW)
-        unmake()
-        left = (self.lying(), self.p.text("nowhere"), self.p.bytes_of("payload"))
-        self.same(f"{title}: nothing is left", left, ([FILE], None, PAYLOAD))
-        self.goes_on(f"{title}, taken away", NONE)
+        self.goes_on(f"{title}, taken away", ONE)
 
-    def test_a_folder_at_the_new_file(self) -> None:
-        self.is_in_the_way("a folder at the new file", self.new.mkdir, self.new.rmdir)
+    def test_a_folder_at_the_lock(self) -> None:
+        self.is_in_the_way("a folder at the lock", self.new.mkdir, self.new.rmdir)
 
-    def test_links_at_the_new_file(self) -> None:
-        for title, target in (("a link at the new file", "payload"), ("a link to nothing at the new file", "nowhere")):
+    def test_links_at_the_lock(self) -> None:
+        for title, target in (("a link at the lock", "payload"), ("a link to nothing at the lock", "nowhere")):
             self.is_in_the_way(title, partial(self.new.symlink_to, target), self.new.unlink)
 
-    def test_a_new_file_that_is_locked(self) -> None:
-        with self.new.open("wb") as other:
-            fcntl.flock(other, fcntl.LOCK_EX)
-            self.not_written("a new file that is locked", self.p.dump(NOWHERE, *KEPT), "", None, LOCKED_NEW)
-
-    def test_a_new_file_that_was_left(self) -> None:
-        counts = tuple(Volume(number, number - 1, 1) for number in range(1, MANY))
-        self.new.write_bytes(text_of(RUN._replace(blocks=MANY), counts)[:-3])
+    def test_a_text_that_was_left(self) -> None:
+        """A killed dump left its lock and a part of a text, which stays, and is in nobody's way."""
+        self.p.file(LOCK, b"")
+        self.p.file(TEXT, text_of(RUN, ONE)[:-3])
         with Model(*two()) as model:
-            self.ends("a new file that was left", self.p.dump(model.address, *KEPT), TWO_VOLUMES, DONE)
-        self.same("a new file that was left is gone", self.lying(), [])
+            self.ends("a text that was left", self.p.dump(model.address, *KEPT), TWO_VOLUMES, DONE)
+        self.same("a text that was left stays", (self.lying(), self.p.bytes_of(TEXT)), ([TEXT], text_of(RUN, ONE)[:-3]))
 
     def test_a_file_in_no_folder(self) -> None:
-        self.ends("a file in no folder", self.p.dump(NOWHERE, "--checkpoint", "nowhere/it"), NOT_WRITTEN, ABNORMAL, "nowhere/it")
+        told = "rdump: nowhere/it: its .new: No such file or directory (os error 2)\n"
+        self.fails("a file in no folder", self.p.dump(NOWHERE, "--checkpoint", "nowhere/it"), told)
 
     def test_a_count_that_cannot_be_printed(self) -> None:
         with open("/dev/full", "wb") as full, Model(*two()) as model:
@@ -664,10 +656,12 @@ class Links(CheckpointCase):
         """A dump that is stopped leaves its counts where the link leads to, and the same words go on with them."""
         stopped_at(self.p, SECOND)
         self.same(f"a link {title}: it stays", here.is_symlink() and os.readlink(here), "other/kept")
-        self.same(f"a link {title}: what it leads to", (kept(self.p), [*there.parent.iterdir()]), (text_of(RUN, ONE), [there]))
+        beside = sorted(it.name for it in there.parent.iterdir())
+        self.same(f"a link {title}: what it leads to", (kept(self.p), beside), (text_of(RUN, ONE), ["kept", "kept.new"]))
         with Model(Reel("r2", 3100)) as model:
             self.ends(f"a link {title}: it goes on", self.p.dump(model.address, *KEPT), REST, DONE, going_on(ONE))
-        self.same(f"a link {title}: there is no file then", (here.exists(), here.with_name(f"{FILE}.new").exists()), (False, False))
+        left = here.exists(), [*there.parent.iterdir()], here.with_name(LOCK).exists()
+        self.same(f"a link {title}: there is no file then", left, (False, [], False))
 
     def test_links(self) -> None:
         here, there = self.p.folder / FILE, self.p.folder / "other" / "kept"
@@ -696,11 +690,11 @@ class TwoDumps(CheckpointCase):
             began = time.monotonic()
             got = self.p.dump(NOWHERE, "--checkpoint", name)
             took = time.monotonic() - began
-            self.fails(f"{title}: a second one, with {name}", got, f"rdump: {name}: another run has it\n")
+            self.fails(f"{title}: a second one, with {name}", got, TAKEN.replace(FILE, name))
             self.holds(f"{title}: it does not wait", took < AT_ONCE_SECONDS, took)
         got = self.p.dump(NOWHERE, *KEPT, dumpdates="bad")
         self.ends(f"{title}: a bad dumpdates file comes first", got, "line 1: bad line\n", FAILED, "bad")
-        self.same(f"{title}: the file is as it was", (kept(self.p), self.lying()), (before, [FILE]))
+        self.same(f"{title}: the file is as it was", (kept(self.p), self.held()), (before, [FILE, LOCK]))
         got = self.p.dump(NOWHERE, "--checkpoint", "another")
         self.ends(f"{title}: one with another file", got, no_connection(1), ABNORMAL, NOWHERE)
         self.ends(f"{title}: one without the word", self.p.dump(NOWHERE), no_connection(1), ABNORMAL, NOWHERE)
@@ -717,8 +711,8 @@ class TwoDumps(CheckpointCase):
 
     def test_a_file_that_another_process_has_locked(self) -> None:
         self.p.file("bad", b"foo\n")
-        path = self.p.folder / self.p.file(FILE, text_of(RUN, ONE))
-        with path.open("rb") as locked:
+        self.p.file(FILE, text_of(RUN, ONE))
+        with self.p.folder.joinpath(self.p.file(LOCK, b"")).open("rb") as locked:
             fcntl.flock(locked, fcntl.LOCK_EX)
             self.is_kept_out("a process that has locked it")
         self.goes_on("a process that had locked it", ONE)
@@ -730,7 +724,7 @@ class TwoDumps(CheckpointCase):
     def test_a_file_that_is_exchanged(self) -> None:
         """While its first volume is dumped: it is not written over, and that another run has it is told once that is to be kept."""
         got = acted_on(self.p, 3, lambda run: self.exchange(), False)
-        self.not_written("a file that is exchanged", got, LINES[0], text_of(RUN, ONE), f"rdump: {FILE}: another run has it\n")
+        self.not_written("a file that is exchanged", got, LINES[0], text_of(RUN, ONE), TAKEN)
 
     def test_a_file_that_is_exchanged_later(self) -> None:
         """It is not removed, which is told too."""
@@ -773,8 +767,8 @@ class Going(CheckpointCase):
         self.same("a terminal: the volume and the block", {*seen}, {("2", "3", "3")}, shown)
 
     def test_the_order_of_calls(self) -> None:
-        """The new file is made, locked, written, synced, renamed, and its folder synced, before a connection is made; a count is printed before it is
-        kept, and the end before the file is removed. The folder is synced after that."""
+        """The lock is made. A new file is made, written, synced, renamed, and its folder synced, before a connection is made; a count is printed
+        before it is kept, and the end before the file and the lock are removed. The folder is synced after that."""
         strace = traced(self, CALLS)
         if not strace:
             return
@@ -782,10 +776,9 @@ class Going(CheckpointCase):
             got = self.p.run(*strace[1:], self.p.rdump, *self.p.dump_words(model.address, *KEPT), program=strace[0])
         self.ends("under strace", got, TWO_VOLUMES, DONE)
         folder = str(self.p.folder.resolve())
-        new = re.escape(f"{FILE}.new")
+        lock, new = re.escape(LOCK), re.escape(TEXT)
         replaced = (
             ("the new file is made", "open", rf'{new}", .*O_CREAT\|O_EXCL'),
-            ("it is locked", "flock", rf"<{folder}/{new}>, LOCK_EX"),
             ("the text is written", "write", rf"<{folder}/{new}>, .*blocks 3\\n"),
             ("it is synced", "fsync", rf"<{folder}/{new}>"),
             ("it is renamed", "rename", rf'{new}".*{re.escape(FILE)}"'),
@@ -793,6 +786,8 @@ class Going(CheckpointCase):
         )
         connects = ("a connection is made", "connect", rf"htons\({model.address.rsplit(':', 1)[1]}\)")
         wanted = (
+            ("the lock is made", "open", rf'{lock}", .*O_CREAT\|O_EXCL'),
+            ("it is locked", "flock", rf"<{folder}/{lock}>, LOCK_EX"),
             *replaced,
             connects,
             ("a count is printed", "write", r"^1<.*volume 1: 2"),
@@ -802,6 +797,7 @@ class Going(CheckpointCase):
             *replaced,
             ("the end is printed", "write", r"^1<.*dump complete"),
             ("the file is removed", "unlink", rf'{re.escape(FILE)}"'),
+            ("the lock is removed", "unlink", rf'{lock}"'),
             ("the folder is synced", "fsync", rf"<{folder}>"),
         )
         in_order(self, made_in(self.p.folder), wanted)

@@ -160,10 +160,11 @@ STEPS = {"open": "open", "openat": "open", "getdents64": "list", "flock": "lock"
 RETRIED = ("open", "getdents64", "flock", "pread", "read", "write", "writev", "ftruncate", "fsync", "recv", "send", "sendmsg", "connect")
 # How many calls may fail with nothing to be told. Of a server: the looks at the start for other folders and mounts, and a lock that is given back.
 UNTOLD = {"open": 1, "statx": 2, "rename": 1, "flock": 1}
-# Of a dump: looks at times and names, a lock that is given back, a new file that stays, a close once all is counted, rights, and the folder's sync.
-UNTOLD_OF_DUMP = {"open": 2, "statx": 5, "flock": 1, "unlink": 1, "send": 2, "recv": 2, "fchown": 1, "fchmod": 1, "fsync": 1}
+# Of a dump: looks at times and names, a lock that is given back, a lock and a new file that stay, a close once all is counted, rights, and the
+# folder's sync.
+UNTOLD_OF_DUMP = {"open": 2, "statx": 7, "flock": 1, "unlink": 2, "send": 2, "recv": 2, "fchown": 1, "fchmod": 1, "fsync": 1}
 # Of a dump with a checkpoint file, which is put in place three times, and removed.
-UNTOLD_OF_KEPT_DUMP = UNTOLD_OF_DUMP | {"open": 6, "statx": 10, "fchown": 3, "fsync": 5}
+UNTOLD_OF_KEPT_DUMP = UNTOLD_OF_DUMP | {"open": 6, "statx": 14, "unlink": 3, "fchown": 3, "fsync": 5}
 # A file that may not be written to is opened to read alone.
 UNWRITTEN = "a read or write failed: the reel may only be read"
 
@@ -700,9 +701,9 @@ def are_whole(reels: Mapping[str, bytes]) -> bool:
 
 def is_dump_right(got: Ran[Left], yes: int, stays: bool = False) -> bool:
     """It did not start and left all as it was; or it took a lawful course, each volume that was counted is whole in the bin, nothing else is there
-    but whole volumes, and dumpdates is the old file, or the new one where it says so. Each fault is told. Its new file may stay where it cannot be
-    removed."""
-    if not are_whole(got.left.bin) or got.left.names not in ([["dates"], ["dates", "dates.new"]] if stays else [["dates"]]):
+    but whole volumes, and dumpdates is the old file, or the new one where it says so. Each fault is told. Its lock and its new file may stay where
+    they cannot be removed."""
+    if not are_whole(got.left.bin) or not {"dates"} <= {*got.left.names} <= ({"dates", "dates.new", "dates.new.1"} if stays else {"dates"}):
         return False
     if got.status == FAILED:
         return got.output == b"" and got.told != b"" and got.left[:2] == ({}, OLD_DATES)
@@ -728,8 +729,18 @@ def is_client_told(got: Ran[object], call: str, error: int) -> bool:
     return lines != [] and all(re.fullmatch("|".join(forms), it) for it in lines)
 
 
-# Where these calls fail the new file may stay: it is removed, and looked at before, so that no other file is removed by its name.
+# Where these calls fail the lock and the new file may stay: they are removed, and looked at before, so that no other file is removed by their names.
 STAYS = ("unlink", "statx")
+
+
+def but_locks(got: Ran[Left], call: str) -> Ran[Left]:
+    """A run without the empty locks that may stay where this call fails."""
+    names = [it for it in got.left.names if call not in STAYS or not it.endswith(".new")]
+    return got.leaving(got.left._replace(names=names))
+
+
+# Calls that a dump makes at its files.
+AT_FILES = ("open", "statx", "flock", "fchown", "fchmod", "fsync", "rename", "unlink")
 # Files that are written, which are told from standard error by their paths.
 WRITTEN = {"write": "/dates"}
 
@@ -761,7 +772,7 @@ class DumpCalls(FaultCase):
                 got = self.dumped(rule.text, WRITTEN.get(call, ""))
                 self.holds(f"a dump: {rule.title}", is_dump_right(got, 0, call in STAYS), got.shown())
                 if rule.error:
-                    self.tells(f"a dump: {rule.title}", got, well, call, rule.error, is_client_told, untold)
+                    self.tells(f"a dump: {rule.title}", but_locks(got, call), well, call, rule.error, is_client_told, untold)
                 told.add(got.told)
         self.are_few("a dump", untold, UNTOLD_OF_DUMP)
         self.holds("a dump: a payload whose length cannot be read is told", any(map(UNREAD.fullmatch, told)), sorted(told))
@@ -784,6 +795,28 @@ class DumpCalls(FaultCase):
                 got = self.dumped(f"{call}:{number}:K", WRITTEN.get(call, ""))
                 is_whole = got.left.dates in (OLD_DATES, NEW_DATES) and are_whole(got.left.bin)
                 self.same(f"a dump that is killed before {call} {number}", (got.status, is_whole), (-signal.SIGKILL, True), got.shown())
+
+    def test_killed_at_a_file(self) -> None:
+        """It leaves an empty lock and a part of the text at most, and the next dump is entered."""
+        counts = counted(dumped(self.p, NO_BLOCKS, b"", ""))
+        for call in AT_FILES:
+            for number in range(1, counts[call] + 1):
+                self.killed_at_a_file(f"{call}:{number}:K")
+        for moved in range(0, len(NEW_DATES) + 1, 7):
+            self.killed_at_a_file(f"write:1:k{moved}", WRITTEN["write"])
+
+    def killed_at_a_file(self, rules: str, path: str = "") -> None:
+        """A dump that is killed, and the same again."""
+        with dump_site(self.p, NO_BLOCKS) as (folder, words):
+            got = self.p.run((*words, *DATED), rules, b"", path).leaving(left(folder))
+            texts = {it.name: it.read_bytes() for it in folder.glob("dates.new*")}
+            again = self.p.run((*words, *DATED), None, YES_TO_BUSY).leaving(left(folder))
+        lock, text = texts.pop("dates.new", b""), texts.pop("dates.new.1", b"")
+        came = got.status, got.left.dates in (OLD_DATES, NEW_DATES), lock, NEW_DATES.startswith(text), texts
+        title = f"a dump that is killed by {rules}"
+        self.same(title, came, (-signal.SIGKILL, True, b"", True, {}), got.shown(), text)
+        stays = [it for it in got.left.names if it == "dates.new.1"]
+        self.same(f"{title}: the next one", again.seen()[::2], (DONE, again.left._replace(dates=NEW_DATES, names=["dates", *stays])), again.shown())
 
     def test_clock_before_1970(self) -> None:
         got = dumped(self.p, THREE_BLOCKS, b"", "clock_gettime:1+:t-5", date=())
@@ -872,7 +905,9 @@ class KeptRun(NamedTuple):
         right = (self.again.status, without_busy(self.again.output)) == (DONE, THREE_BLOCKS.printed(had))
         # A volume that the file had is on one reel. Of another one the server may have moved a reel once the client was gone.
         once = all([*then.bin.values()].count(it) == 1 for it in reels[:had])
-        return right and {*then.bin.values()} == {*reels} and once and then[1:] == (NEW_DATES, ["dates"], None)
+        # A part of a text that was being written stays, and no lock does.
+        names = [it for it in then.names if not re.fullmatch(r"\w+\.new\.1", it)]
+        return right and {*then.bin.values()} == {*reels} and once and (then.dates, names, then.kept) == (NEW_DATES, ["dates"], None)
 
 
 def without_busy(output: bytes) -> bytes:
@@ -928,7 +963,7 @@ class KeptDumpCalls(FaultCase):
         wanted = DONE, THREE_BLOCKS.printed(), (NEW_DATES, ["dates"], None)
         self.same("a dump with a checkpoint file in which nothing fails", (well.status, well.output, well.left[1:]), wanted, well.shown())
         removed = [name for name in well.calls if name in ("unlink", "fsync")]
-        self.same("the folder is synced once a checkpoint file is removed", removed[-2:], ["unlink", "fsync"], removed)
+        self.same("the folder is synced once a checkpoint file and its lock are removed", removed[-3:], ["unlink", "unlink", "fsync"], removed)
 
     def test_each_call_fails(self) -> None:
         well = self.kept_run("").got
@@ -941,7 +976,7 @@ class KeptDumpCalls(FaultCase):
                     title, it = f"a dump with a checkpoint file, {call}:{what}", self.kept_run(f"{call}:{what}", path)
                     self.holds(title, is_kept_right(it.got, call), it.got.shown())
                     if error:
-                        self.tells(title, it.got, well, call, error, is_client_told, untold)
+                        self.tells(title, but_locks(it.got, call), well, call, error, is_client_told, untold)
                     self.holds(f"{title}: it goes on", not it.again or it.goes_on(), it.shown())
                     ends[it.got.status] += 1
         self.are_few("a dump with a checkpoint file", untold, UNTOLD_OF_KEPT_DUMP)
@@ -974,15 +1009,16 @@ class KeptDumpCalls(FaultCase):
             self.holds(f"{title}: it goes on", it.goes_on(), it.shown())
 
     def test_file_cannot_be_removed(self) -> None:
-        """The last call of this name would do that: it is told, and the status says so."""
-        it = self.kept_run(f"unlink:{self.calls()['unlink']}+:E13")
+        """The last call of this name but that for the lock would do that: it is told, and the status says so."""
+        it = self.kept_run(f"unlink:{self.calls()['unlink'] - 1}+:E13")
         came = it.got.status, it.got.output, it.got.left[1:], KEPT_PATH.encode() in it.got.told
-        wanted = ABNORMAL, THREE_BLOCKS.printed(), (NEW_DATES, [KEPT, "dates"], THREE_BLOCKS.checkpoint(2)), True
+        wanted = ABNORMAL, THREE_BLOCKS.printed(), (NEW_DATES, [KEPT, f"{KEPT}.new", "dates"], THREE_BLOCKS.checkpoint(2)), True
         self.same("a checkpoint file that cannot be removed", came, wanted, it.got.shown())
         self.holds("a checkpoint file that could not be removed: it is found finished", it.goes_on(), it.shown())
 
     def test_file_cannot_be_removed_after_the_dump_was_abandoned(self) -> None:
-        rules = f"unlink:{self.calls()['unlink']}+:E13"
+        # The first call of this name is for the lock of dumpdates, which is tried at the start.
+        rules = "unlink:2+:E13"
         with dump_site(self.p, THREE_BLOCKS) as (folder, words):
             folder.joinpath(KEPT).write_bytes(THREE_BLOCKS.checkpoint(1))
             nowhere = tuple(it if ":" not in it or "/" in it else NOWHERE for it in words)

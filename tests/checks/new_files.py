@@ -1,21 +1,21 @@
 """Checks from outside which files `rdump dump` touches, and what it says of its payload and of a restore.
 
-The file `FILE.new` that a dump makes beside its dumpdates and its checkpoint file is taken away where a stopped run left it, and nothing else is. No
-two files of a dump are one. A file that is no plain one is not waited for. What is said of a payload that changed, of an entry of a later date and
-of what a restore needs stands on standard error. The tape server is a plain model.
+The lock `FILE.new` that a dump makes beside its dumpdates and its checkpoint file is taken over where a stopped run left it, which is empty, and
+nothing else is touched. No two files of a dump are one. A file that is no plain one is not waited for. What is said of a payload that changed, of an
+entry of a later date and of what a restore needs stands on standard error. The tape server is a plain model.
 """
 
 from __future__ import annotations
 
 import fcntl
 import os
+import re
 import shlex
-import shutil
 import stat
 import subprocess
 import threading
 from functools import partial
-from typing import Callable, Iterator, Mapping, NamedTuple
+from typing import Callable, Mapping, NamedTuple
 
 from tests.lib.checkpoints import BOTH, ONE, RUN
 from tests.lib.connections import NOWHERE
@@ -27,56 +27,12 @@ from tests.lib.restores import fetch_words
 from tests.lib.volumes import reels_of
 from tests.lib.waiting import GUARD_SECONDS
 from tests.models.checkpoint import text_of
-from tests.models.world import Volume
 
 NOT_UPDATED, NOT_WRITTEN = "dumpdates not updated\n", "checkpoint not written\n"
 UPDATE, KEPT = ("--dumpdates", "dd", "--update"), ("--checkpoint", "usr")
 HOME = f"{'/home':<32} 9 Mon Feb 28 00:00:00 2000\n"
-LONG = f"{'/a/name/that/has/more/than/32/bytes':<32} 1 Thu Jan  1 00:00:00 1970\n"
-# Texts that no run left of dumpdates.
-FOREIGN_DATES = (
-    b"an operator's own",
-    b"an operator's own\n",
-    b"\n",
-    b"\0",
-    bytes(512),
-    os.urandom(3000),
-    b"/usr 0 Tue Feb 29 00:00:00 2000\n",
-    ENTRY.replace(" 0 Tue", "  0 Tue").encode(),
-    ENTRY.replace("Tue", "Mon").encode(),
-    ENTRY.replace("\n", "\r\n").encode(),
-    ENTRY.encode() + b"\n",
-    ENTRY.encode() + b"# a note",
-    b"# a note\n" + ENTRY.encode(),
-    ENTRY.encode() + ENTRY[:40].encode() + b"x",
-    ENTRY.encode() + b"x" * 256,
-    ENTRY.encode() + ENTRY.encode()[:-1] + b" ",
-    text_of(RUN, ONE),
-)
-# And of a checkpoint.
-FOREIGN_CHECKPOINTS = (
-    b"an operator's own",
-    b"r" * 700,
-    b"\n",
-    b"\0",
-    bytes(512),
-    os.urandom(3000),
-    text_of(RUN, ONE) + b"\n",
-    text_of(RUN, ONE) + b"counted 2 3",
-    text_of(RUN, ONE) + b"counted 3",
-    text_of(RUN, BOTH) + b"counted 3 3 1",
-    text_of(RUN).replace(b"level 0", b"level 00"),
-    text_of(RUN).replace(b"\n", b"\r\n"),
-    text_of(RUN, (Volume(2, 0, 1),)),
-    b"rdump 2\n",
-    b"rdump 1\nfs /usr\n",
-    ENTRY.encode(),
-)
-
-
-def cuts(text: bytes) -> Iterator[bytes]:
-    """A text that is cut off anywhere, and the whole of it."""
-    return (text[:at] for at in range(len(text) + 1))
+# What is no lock, since it is not empty.
+FOREIGN = (b"own\n", b"\0", bytes(512), os.urandom(3000), ENTRY.encode(), ENTRY[:20].encode(), text_of(RUN, ONE), text_of(RUN, ONE)[:-3])
 
 
 class FileCase(DumpCase):
@@ -133,13 +89,19 @@ class Strangers(FileCase):
         self.same("dd.new is the payload, and nothing is entered: it stays", self.p.bytes_of("dd.new"), PAYLOAD)
 
     def test_files_of_others(self) -> None:
-        for name, more, texts in (("dd.new", UPDATE, FOREIGN_DATES), ("usr.new", KEPT, FOREIGN_CHECKPOINTS)):
-            for number, text in enumerate(texts):
+        for name, more, told in (("dd.new", UPDATE, "rdump: dd.new: it is not one"), ("usr.new", KEPT, "rdump: usr: its .new is not one")):
+            for number, text in enumerate(FOREIGN):
                 self.p.file(name, text)
-                self.refused(f"{name} of another, {number}", (name, "not touched"), {name: text}, *more)
+                self.refused(f"{name} of another, {number}", (told, "not touched"), {name: text}, *more)
             got = self.p.dump(NOWHERE, *more, dumpdates=None if more == UPDATE else "none", payload="missing")
             self.ends(f"{name} of another, and no payload", got, "", FAILED, "missing")
             os.remove(self.p.folder / name)
+
+    def test_a_file_of_another_that_is_locked(self) -> None:
+        """It is no lock, so it is not waited for."""
+        with self.p.folder.joinpath(self.p.file("dd.new", b"own\n")).open("rb") as other:
+            fcntl.flock(other, fcntl.LOCK_EX)
+            self.refused("dd.new of another that is locked", ("rdump: dd.new: ", "not touched"), {"dd.new": b"own\n"}, *UPDATE)
 
     def test_the_turn_among_the_faults_of_a_start(self) -> None:
         self.p.file("usr.new", b"own\n")
@@ -152,49 +114,62 @@ class Strangers(FileCase):
         self.ends("dd.new comes before a limit", got, "", FAILED, "rdump: dd.new: ")
         self.p.file("usr", b"bad\n")
         os.remove(self.p.folder / "dd.new")
-        self.ends("a bad checkpoint file comes before usr.new", self.p.dump(NOWHERE, *KEPT), "line 1: bad line\n", FAILED, "rdump: usr: ")
+        self.ends("usr.new comes before a bad checkpoint file", self.p.dump(NOWHERE, *KEPT), "", FAILED, "rdump: usr: its .new is not one")
 
     def test_it_is_not_looked_at_where_nothing_is_entered(self) -> None:
         self.p.file("dd.new", b"own\n")
         self.ends("dd.new is not looked at where nothing is entered", self.dumped("--dumpdates", "dd"), ONE_VOLUME, DONE)
         self.same("dd.new is not looked at where nothing is entered: it stays", self.p.bytes_of("dd.new"), b"own\n")
 
-    def test_files_that_come_late(self) -> None:
-        """A file of another comes to the place of the new one while a dump runs."""
-        for name, more, end, before in (("dd.new", UPDATE, NOT_UPDATED, ONE_VOLUME), ("usr.new", KEPT, NOT_WRITTEN, ONE_VOLUME.splitlines(True)[0])):
-            got, _ = self.acted_on({5: partial(self.p.file, name, b"own\n")}, *more)
-            tells = f"rdump: {more[1]}: its .new is not one that rdump left: it is not touched\n"
-            self.ends(f"{name} of another that comes late", got, before + end, ABNORMAL, tells)
-            self.same(f"{name} of another that comes late: it stays", self.p.bytes_of(name), b"own\n")
-            os.remove(self.p.folder / name)
+    def test_a_file_that_comes_late(self) -> None:
+        """A file of another comes to the place of the lock of dumpdates while a dump runs."""
+        got, _ = self.acted_on({5: partial(self.p.file, "dd.new", b"own\n")}, *UPDATE)
+        tells = "rdump: dd: its .new is not one that rdump left: it is not touched\n"
+        self.ends("dd.new of another that comes late", got, ONE_VOLUME + NOT_UPDATED, ABNORMAL, tells)
+        self.same("dd.new of another that comes late: it stays", self.p.bytes_of("dd.new"), b"own\n")
 
+    def test_what_comes_in_place_of_the_lock_of_a_checkpoint(self) -> None:
+        """The dump has its lock, and goes on. What is there at its end stays."""
+        path = self.p.folder / "usr.new"
 
-# A run waits for ten seconds while another has its new file.
-REMOVAL_SECONDS = 11
+        def exchange(make: Callable[[], object]) -> None:
+            path.unlink()
+            make()
+
+        rows: tuple[tuple[str, Callable[[], object], str], ...] = (
+            ("bytes in the lock", partial(path.write_bytes, b"own\n"), "own\n"),
+            ("another file", partial(exchange, partial(path.write_bytes, b"own\n")), "own\n"),
+            ("another empty file", partial(exchange, path.touch), ""),
+            ("a link", partial(exchange, partial(path.symlink_to, "mine")), "mine"),
+        )
+        self.p.file("mine", b"mine")
+        for title, act, stays in rows:
+            got, _ = self.acted_on({5: act}, *KEPT)
+            self.ends(f"usr.new: {title}", got, ONE_VOLUME, DONE)
+            left = os.readlink(path) if path.is_symlink() else path.read_text()
+            self.same(f"usr.new: {title}: it stays", (left, self.p.bytes_of("mine"), self.p.bytes_of("usr")), (stays, b"mine", None))
+            path.unlink()
 
 
 class Left(FileCase):
-    """What a stopped run left, cut off anywhere, is taken away; what another run has locked is waited for."""
+    """An empty file that a stopped run left is taken over; what another run has locked is waited for. Taken names of the text are passed over."""
 
-    def test_dumpdates(self) -> None:
-        for number, text in enumerate(cuts((HOME + LONG + ENTRY).encode())):
-            if number < len(HOME) or number >= len(HOME + LONG) - 40:
-                self.p.folder.joinpath("dd").unlink(missing_ok=True)
-                self.p.file("dd.new", text)
-                got = self.dumped(*UPDATE)
-                self.ends(f"dd.new, cut at byte {number}", got, ONE_VOLUME, DONE)
-                files = self.p.bytes_of("dd.new"), self.p.bytes_of("dd")
-                self.same(f"dd.new, cut at byte {number}: it is gone", files, (None, ENTRY.encode()))
+    def lying(self) -> list[str]:
+        """The names of what lies beside the payload."""
+        return sorted(it.name for it in self.p.folder.iterdir() if it.name != "payload")
 
-    def test_a_checkpoint(self) -> None:
-        for number, text in enumerate(cuts(text_of(RUN, BOTH))):
-            self.p.file("usr.new", text)
-            self.ends(f"usr.new, cut at byte {number}", self.p.dump(NOWHERE, *KEPT), LOST, ABNORMAL, NOWHERE)
-            files = self.p.bytes_of("usr.new"), self.p.bytes_of("usr")
-            self.same(f"usr.new, cut at byte {number}: it is gone", files, (None, None))
+    def test_an_empty_file(self) -> None:
+        for mode in (0o600, 0o644, 0o400):
+            self.p.folder.joinpath(self.p.file("dd.new", b"")).chmod(mode)
+            self.ends(f"an empty dd.new of mode {mode:o}", self.dumped(*UPDATE), ONE_VOLUME, DONE)
+            self.same(f"an empty dd.new of mode {mode:o}: it is gone", (self.lying(), self.p.bytes_of("dd")), (["dd"], ENTRY.encode()))
+            os.remove(self.p.folder / "dd")
+            self.p.folder.joinpath(self.p.file("usr.new", b"")).chmod(mode)
+            self.ends(f"an empty usr.new of mode {mode:o}", self.p.dump(NOWHERE, *KEPT), LOST, ABNORMAL, NOWHERE)
+            self.same(f"an empty usr.new of mode {mode:o}: it is gone", self.lying(), [])
 
     def test_a_file_that_is_locked(self) -> None:
-        with self.p.folder.joinpath(self.p.file("dd.new", b"own\n")).open("rb") as other:
+        with self.p.folder.joinpath(self.p.file("dd.new", b"")).open("rb") as other:
             fcntl.flock(other, fcntl.LOCK_EX)
 
             def free() -> None:
@@ -207,17 +182,29 @@ class Left(FileCase):
             timer.join()
         self.ends("dd.new that another run has locked for a while", got, ONE_VOLUME, DONE)
 
-    def test_a_file_whose_removal_takes_long(self) -> None:
-        """The removal takes longer than the ten seconds for which a run waits for another one. Nobody else has the file."""
-        strace = shutil.which("strace")
-        if not strace:
-            self.skipTest("strace is not installed")
-        slowly = ("-f", "-qq", "-o", "strace", "-e", "trace=unlink,unlinkat", "-e", f"inject=unlink,unlinkat:delay_exit={REMOVAL_SECONDS}s")
-        self.p.file("dd.new", ENTRY[:20].encode())
-        with Model(Reel("r1", 4200)) as model:
-            got = self.p.run(*slowly, self.p.rdump, *self.words(model.address, *UPDATE), program=strace)
-        self.ends("dd.new whose removal takes long", got, ONE_VOLUME, DONE)
-        self.same("dd.new whose removal takes long: the entry", self.p.bytes_of("dd"), ENTRY.encode())
+    def test_names_that_are_taken(self) -> None:
+        """The text gets the first name with a number that is free. What has the others stays, whatever it is, and no link is followed."""
+        self.p.file("mine", b"mine")
+        for name, more in (("dd", UPDATE), ("usr", KEPT)):
+            self.p.file(f"{name}.new.1", b"own\n")
+            self.p.folder.joinpath(f"{name}.new.2").symlink_to("mine")
+            self.p.folder.joinpath(f"{name}.new.3").symlink_to("nowhere")
+            self.p.folder.joinpath(f"{name}.new.4").mkdir()
+            seen: list[list[str]] = []
+            got, _ = self.acted_on({5: lambda: seen.append(self.lying())}, *more)
+            taken = [f"{name}.new.{number}" for number in range(1, 5)]
+            self.ends(f"taken names of {name}", got, ONE_VOLUME, DONE)
+            self.same(f"taken names of {name}: they stay", [it for it in self.lying() if it.startswith(f"{name}.new")], taken)
+            came = self.p.bytes_of(taken[0]), os.readlink(self.p.folder / taken[1]), self.p.bytes_of("mine"), self.p.bytes_of("nowhere")
+            self.same(f"taken names of {name}: nothing is changed", came, (b"own\n", "mine", b"mine", None))
+            self.same(f"taken names of {name}: none more meanwhile", [it for it in seen[0] if re.search(r"new\.[5-9]", it)], [])
+
+    def test_names_that_are_all_taken(self) -> None:
+        for number in range(1, 1001):
+            self.p.file(f"dd.new.{number}", b"")
+        told = "rdump: dd: its .new.1 to .new.1000 are taken: remove these files\n"
+        self.ends("all names are taken", self.dumped(*UPDATE), ONE_VOLUME + NOT_UPDATED, ABNORMAL, told)
+        self.same("all names are taken: nothing else is left", (len(self.lying()), self.p.bytes_of("dd")), (1000, None))
 
 
 class Names(NamedTuple):
@@ -386,7 +373,7 @@ class Kinds(FileCase):
     def test_new_files(self) -> None:
         os.mkfifo(self.p.folder / "usr.new")
         got = self.p.dump(NOWHERE, *KEPT)
-        self.ends("the .new is a pipe", got, NOT_WRITTEN, ABNORMAL, "rdump: usr: its .new is no plain file\n")
+        self.ends("the .new is a pipe", got, "", FAILED, "rdump: usr: its .new is no plain file\n")
 
     def test_payloads(self) -> None:
         os.mkfifo(self.p.folder / "payload.pipe")

@@ -258,7 +258,8 @@ class NightScript(NightCase):
                 os.kill(dump, getattr(signal, f"SIG{name}"))
                 told = night.communicate()[1].decode()
             end = f"night: /usr level 0 date {sunday} ended with status {status} (signal {name})\n{AGAIN.format(1)}"
-            self.same(name, (night.returncode, told.endswith(end), self.left()), (status, True, ["checkpoint", "payload"]), told)
+            left = ["checkpoint", "checkpoint.new", "payload"]
+            self.same(name, (night.returncode, told.endswith(end), self.left()), (status, True, left), told)
         with serving() as server:
             server.reel("r1")
             server.reel("r2")

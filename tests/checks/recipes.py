@@ -162,6 +162,7 @@ UNSHOWN = {
     "rdump: FILE: its .new is the .new of the catalog too: FILE": "tests/checks/new_files.py shows others of this form",
     "rdump: FILE: its .new is the .new of the checkpoint file too: FILE": "tests/checks/new_files.py shows others of this form",
     "rdump: FILE: its .new is the .new of the dumpdates file too: FILE": "tests/checks/new_files.py shows others of this form",
+    "rdump: FILE: its .new.1 to .new.1000 are taken: remove these files": "tests/checks/new_files.py shows it",
     "rdump: FILE: its .new was locked for ten seconds": "tests/checks/updates.py shows it, and waits for it beside other checks",
     "rdump: FILE: its block size is N, and that of this dump is N": "tests/checks/checkpoint.py shows it",
     "rdump: FILE: its device is DEVICE, and that of this dump is DEVICE": "tests/checks/checkpoint.py shows it",

@@ -36,6 +36,8 @@ from tests.models.checkpoint import Checkpoint, decoded
 INPUT = "-"
 PIPED: dict[str, str | None] = {"payload": INPUT}
 NAMED = f"{FILE}.payload"
+# The lock of the checkpoint, which a killed dump leaves.
+LOCK = f"{FILE}.new"
 SEED = 59
 
 # Sizes around a block, around what a pipe holds, and around what is read from it at once.
@@ -90,13 +92,17 @@ class SpoolCase(DumpCase):
         """The names of what lies in the folder."""
         return sorted(it.name for it in self.p.folder.iterdir())
 
+    def lying_but_the_lock(self) -> list[str]:
+        """The same, but for the lock of a checkpoint."""
+        return [it for it in self.lying() if it != LOCK]
+
     def unread(self, title: str, told: str, *more: str, address: str = NOWHERE, **changed: str | None) -> None:
         """The dump does not start, says this alone, and has read nothing from standard input, which has no end yet."""
-        before = self.lying()
+        before = self.lying_but_the_lock()
         output, told_here, status, rest = self.with_open_pipe(address, *more, **changed)
         self.same(f"{title}: it does not start", (output, told_here, status), ("", told, FAILED))
         self.same(f"{title}: nothing was read", rest, b"bytes")
-        self.same(f"{title}: the folder", self.lying(), before)
+        self.same(f"{title}: the folder", self.lying_but_the_lock(), before)
 
     def calls_come(self, wanted: tuple[tuple[str, str, str], ...], *more: str) -> None:
         """A dump makes these calls of the system, one after the other, and then a connection."""
@@ -313,7 +319,7 @@ class Named(SpoolCase):
         with Model(*two(), acts={1: look, ALL_REQUESTS: look}) as model:
             got = self.kept_dump(model.address, PAYLOAD)
         self.same("not stopped", got, Ended(TWO_VOLUMES, "", DONE))
-        self.same("not stopped: the files meanwhile", seen, [([FILE, NAMED], PAYLOAD, 0o600)] * 2)
+        self.same("not stopped: the files meanwhile", seen, [([FILE, LOCK, NAMED], PAYLOAD, 0o600)] * 2)
         self.same("not stopped: nothing stays", self.lying(), [])
         self.same("not stopped: the blocks", blocks_of(model), PAYLOAD)
 
@@ -328,7 +334,7 @@ class Named(SpoolCase):
                 ("the bytes are written", "write", rf"{named}>"),
                 ("it is synced", "fsync", rf"{named}>"),
                 ("its folder is synced", "fsync", rf"<{folder}>"),
-                ("the checkpoint is kept", "rename", rf'{re.escape(FILE)}\.new".*{re.escape(FILE)}"'),
+                ("the checkpoint is kept", "rename", rf'{re.escape(FILE)}\.new\.1".*{re.escape(FILE)}"'),
             ),
             *KEPT,
         )
@@ -340,7 +346,9 @@ class Named(SpoolCase):
             self.stopped(number)
             found = decoded(kept(self.p) or b"")
             counts = found.counts if isinstance(found, Checkpoint) else BOTH
-            self.same(f"{title}: the files", (self.lying(), self.p.bytes_of(NAMED)), ([FILE, NAMED], PAYLOAD))
+            files = [it for it in self.lying() if it != f"{LOCK}.1"]
+            self.same(f"{title}: the files", (files, self.p.bytes_of(NAMED)), ([FILE, LOCK, NAMED], PAYLOAD))
+            self.p.folder.joinpath(f"{LOCK}.1").unlink(missing_ok=True)
             rest = two()[len(counts) :]
             with Model(*rest) as model:
                 output, told, status, left = self.with_open_pipe(model.address, *KEPT)
@@ -366,10 +374,10 @@ class Named(SpoolCase):
             given(run.stdin).write(PAYLOAD[:1500])
             given(run.stdin).flush()
             self.holds("while it reads: it has the file", soon(lambda: self.p.bytes_of(NAMED) == PAYLOAD[:1500]))
-            taken = f"rdump: {NAMED}: another run has it\n"
-            self.unread("another run, while it reads", taken, *KEPT)
+            self.unread("another run, while it reads", f"rdump: {FILE}: another run has it\n", *KEPT)
             run.kill()
-        self.same("stopped while it reads: the files", self.lying(), [NAMED])
+        self.same("stopped while it reads: the files", self.lying(), [LOCK, NAMED])
+        self.p.folder.joinpath(LOCK).unlink()
         self.unread("after a run that was stopped", LEFT, *KEPT)
         self.same("stopped while it reads: the bytes", self.p.bytes_of(NAMED), PAYLOAD[:1500])
         self.p.folder.joinpath(NAMED).unlink()
@@ -429,7 +437,7 @@ class Named(SpoolCase):
         other.mkdir()
         self.p.folder.joinpath(FILE).symlink_to("other/kept")
         self.stopped(SECOND)
-        self.same("a link: the files", sorted(os.listdir(other)), ["kept", "kept.payload"])
+        self.same("a link: the files", sorted(os.listdir(other)), ["kept", "kept.new", "kept.payload"])
         with Model(Reel("r2", 3100)) as model:
             got = self.kept_dump(model.address, b"")
         told = NOT_READ.replace(NAMED, "other/kept.payload") + going_on(ONE)

@@ -21,7 +21,7 @@ from tests.lib.connections import NOWHERE
 from tests.lib.dumping import DAY, ENTRY, PAYLOAD, TWO_VOLUMES, DumpCase, end_of, label, lines_of
 from tests.lib.ended import ABNORMAL, DONE, Ended
 from tests.lib.given import given
-from tests.lib.places import TOP, is_unproved
+from tests.lib.places import is_unproved
 from tests.lib.played_servers import Model, Reel, Said
 from tests.lib.processes import guarded
 from tests.lib.recipes import OPERATING
@@ -224,15 +224,21 @@ class Setbacks(RetryCase):
             self.goes_on(f"a counted reel {more}", *model.stack)
 
     def test_documents(self) -> None:
-        """docs/OPERATING.md lists what is given up, and what docs/MESSAGES.md has an operator answer with no is among it. Each failure of
-        docs/MESSAGES.md is tried above."""
+        """docs/OPERATING.md lists what is given up, and what its table has an operator answer with `no` is among it. Each failure of the table
+        is tried above."""
         tested = {*(it.printed[16:].strip() for it in ATTEMPTS), "ConnectionEnded", "SourceFault", "CountedReel", "OutOfMemory"}
         given_up = {*(it.printed[16:].strip() for it in ATTEMPTS if it.stays), "SourceFault", "CountedReel"}
-        rows = re.findall(r"(?m)^\| `volume N failed: ([A-Z]\w+(?: \d+)?)[^`]*` \|.*\| ([^|]*) \|$", TOP.joinpath("docs/MESSAGES.md").read_text())
-        self.holds("docs/MESSAGES.md has failures", len(rows) > 10, rows)
-        self.same("each failure of docs/MESSAGES.md is tried", {it for it, _ in rows} - tested, set())
-        self.same("what is answered with no is given up", {it for it, to_do in rows if "answer no" in to_do} - given_up, set())
-        part = OPERATING.read_text().partition("**If waiting cannot help**")[2].partition("\n\n")[0]
+        text = OPERATING.read_text()
+        rows: dict[str, str] = {}
+        for cell, to_do in re.findall(r"(?m)^\| ((?:`[^`|]+`(?:, )?)+) \|[^|]*\| ([^|]*) \|$", text.partition("| Message |")[2].partition("\n\n")[0]):
+            for name in re.findall("`([^`]+)`", cell):
+                name = f"Refused {name}" if name.isdigit() else name.removesuffix(" N")
+                if re.fullmatch(r"[A-Z][a-z]+[A-Z]\w+|Botched|Refused \d+", name):
+                    rows[name] = to_do
+        self.holds("docs/OPERATING.md has failures", len(rows) > 10, rows)
+        self.same("each failure of docs/OPERATING.md is tried", rows.keys() - tested, set())
+        self.same("what is answered with no is given up", {it for it, to_do in rows.items() if "answer `no`" in to_do} - given_up, set())
+        part = text.partition("**If waiting cannot help**")[2].partition("\n\n")[0]
         self.same("docs/OPERATING.md lists what is given up", {" ".join(it.split()) for it in re.findall("`([^`]+)`", part)}, given_up)
 
 

@@ -37,6 +37,7 @@ ROUNDS = 3
 KILLS = 40
 # So many dumps at once.
 AT_ONCE = 20
+EIGHT = 8
 # How long `rdump` waits for a lock, and in how long it has to be done with that on a busy machine.
 WAITS_SECONDS = 10
 HELD_SECONDS = 30
@@ -44,7 +45,7 @@ HELD_SECONDS = 30
 KILLED_WITHIN = 0.012
 LATE = "its .new was locked for ten seconds"
 NO_PLAIN_FILE = "rdump: dumpdates: its .new is no plain file\n"
-CALLS = "openat,open,flock,read,write,fsync,fdatasync,rename,renameat,renameat2"
+CALLS = "openat,open,flock,read,write,fsync,fdatasync,rename,renameat,renameat2,unlink,unlinkat"
 
 
 def entry(fs: str) -> str:
@@ -53,8 +54,6 @@ def entry(fs: str) -> str:
 
 
 OLD = entry("/old")
-# A new file that a killed run left: its last line is cut off.
-LEFT = "".join(entry(f"/fs/{it}") for it in range(99))[:-5]
 
 
 class Updates(Case):
@@ -103,8 +102,8 @@ class Updates(Case):
         return path
 
     def left(self) -> list[str]:
-        """The new files that lie about."""
-        return [str(it.relative_to(self.folder)) for it in self.folder.rglob("*.new")]
+        """The locks and the new files that lie about."""
+        return [str(it.relative_to(self.folder)) for it in self.folder.rglob("*.new*")]
 
     def entered(self, title: str, got: Ended[str]) -> None:
         """The dump ended well, and tells of nothing."""
@@ -122,16 +121,18 @@ class Updates(Case):
 
     # Several dumps.
 
-    def enter_at_once(self, count: int, rounds: int) -> None:
-        """So many dumps at once, so often: each is entered."""
+    def enter_at_once(self, count: int, rounds: int, old: str | None = OLD) -> None:
+        """So many dumps at once, so often: each is entered. Before each round the file has this text, or is not there."""
         lost = []
         for number in range(rounds):
-            self.put(OLD)
+            self.folder.joinpath("dumpdates").unlink(missing_ok=True)
+            if old is not None:
+                self.put(old)
             names, began = [f"/fs{number}/{it}" for it in range(count)], time.monotonic()
             ends = dict(zip(names, self.at_once(names)))
             # If the disk is slow the last of many have waited for too long.
             late = [it for it in names if ends[it].status != DONE]
-            wanted = sorted([OLD, *(entry(it) for it in names if it not in late)])
+            wanted = sorted([*([old] if old else []), *(entry(it) for it in names if it not in late)])
             lines = (self.text() or "").splitlines(keepends=True)
             if sorted(lines) != wanted or len(late) > count // 2:
                 lost.append((lines, late))
@@ -146,6 +147,9 @@ class Updates(Case):
 
     def test_many_at_once(self) -> None:
         self.enter_at_once(AT_ONCE, ROUNDS)
+
+    def test_many_at_once_that_make_the_file(self) -> None:
+        self.enter_at_once(EIGHT, ROUNDS, None)
 
     @contextmanager
     def watched(self, seen: set[str | None]) -> Iterator[None]:
@@ -188,12 +192,13 @@ class Updates(Case):
         self.same(f"one of two that is killed, in each of {KILLS} rounds", wrong, [], f"seed {seed}")
         self.server.gate = threading.Barrier(1)
         self.entered("a dump after those that were killed", self.dump("/other"))
-        self.same("those that were killed leave nothing then", self.left(), [])
+        left = [it for it in self.left() if not re.fullmatch(r"dumpdates\.new\.\d+", it)]
+        self.same("those that were killed leave no lock then", left, [], self.left())
 
-    # The new file.
+    # The lock.
 
     def test_a_lock_that_is_held_for_too_long(self) -> None:
-        """Another process holds the lock of the new file, and the dump waits for ten seconds."""
+        """Another process holds the lock, and the dump waits for ten seconds."""
         title = "a lock that is held for too long"
         self.put(OLD)
         with self.put("", "dumpdates.new").open("r+") as other:
@@ -206,7 +211,7 @@ class Updates(Case):
             self.same(f"{title}: nothing changed", (self.text(), self.text("dumpdates.new")), (OLD, ""))
 
     def test_a_lock_that_is_held_for_a_while(self) -> None:
-        """Another process holds the lock of the new file for two seconds, and the dump waits for that."""
+        """Another process holds the lock for two seconds, and the dump waits for that."""
         title = "a lock that is held for a while"
         self.put(OLD)
         with self.put("", "dumpdates.new").open("r+") as other:
@@ -217,22 +222,22 @@ class Updates(Case):
             self.entered(title, end_of(self, run))
         self.texts_are(title, OLD + entry("/late"))
 
-    def test_a_new_file_that_was_left(self) -> None:
+    def test_a_lock_that_was_left(self) -> None:
         self.put(OLD)
-        self.put(LEFT, "dumpdates.new").chmod(0o400)
-        self.entered("a new file that was left", self.dump("/left"))
-        self.texts_are("a new file that was left", OLD + entry("/left"))
+        self.put("", "dumpdates.new").chmod(0o400)
+        self.entered("a lock that was left", self.dump("/left"))
+        self.texts_are("a lock that was left", OLD + entry("/left"))
 
-    def test_a_new_file_that_is_a_link(self) -> None:
-        """A link where the new file is to be made is not followed."""
+    def test_a_lock_that_is_a_link(self) -> None:
+        """A link where the lock is to be made is not followed."""
         victim = self.put("not ours", "victim")
         for title, target in (("a file", "victim"), ("nothing", "nowhere")):
             self.put(OLD)
             self.new.symlink_to(target)
-            self.not_entered(f"a new file that is a link to {title}", self.dump("/linked"), NO_PLAIN_FILE)
-            self.same(f"a new file that is a link to {title}: nothing is changed", (self.text(), self.new.is_symlink()), (OLD, True))
+            self.not_entered(f"a lock that is a link to {title}", self.dump("/linked"), NO_PLAIN_FILE)
+            self.same(f"a lock that is a link to {title}: nothing is changed", (self.text(), self.new.is_symlink()), (OLD, True))
             came = victim.read_text(), self.text("nowhere")
-            self.same(f"a new file that is a link to {title}: not followed", came, ("not ours", None))
+            self.same(f"a lock that is a link to {title}: not followed", came, ("not ours", None))
             self.new.unlink(missing_ok=True)
 
     def test_a_new_file_of_an_operator(self) -> None:
@@ -244,19 +249,19 @@ class Updates(Case):
         self.same("an operator's own file: it stays", (self.text("dumpdates.new"), self.text()), ("an operator's own", OLD))
 
     def test_a_dump_that_is_abandoned(self) -> None:
-        """It leaves a new file that was left as it was."""
+        """It leaves the file as it was, and a text that a killed run left."""
         self.put(OLD)
-        self.put(LEFT, "dumpdates.new")
+        self.put("", "dumpdates.new")
+        self.put(entry("/killed")[:-5], "dumpdates.new.1")
         got = self.dump("/abandoned", address=NOWHERE)
         self.same("a dump that is abandoned", (got.status, got.output.endswith("dump abandoned\n")), (ABNORMAL, True), got)
-        self.same("a dump that is abandoned: what lies there stays", self.text("dumpdates.new"), LEFT)
-        self.same("a dump that is abandoned: nothing is changed", self.text(), OLD)
+        self.same("a dump that is abandoned: what stays", (self.text(), self.left()), (OLD, ["dumpdates.new.1"]))
 
-    def test_a_new_file_that_is_a_folder(self) -> None:
+    def test_a_lock_that_is_a_folder(self) -> None:
         self.put(OLD)
         self.new.mkdir()
-        self.not_entered("a new file that is a folder", self.dump("/folder"), NO_PLAIN_FILE)
-        self.same("no new file: nothing is changed", self.text(), OLD)
+        self.not_entered("a lock that is a folder", self.dump("/folder"), NO_PLAIN_FILE)
+        self.same("a lock that is a folder: nothing is changed", self.text(), OLD)
 
     # The file.
 
@@ -316,7 +321,7 @@ class Updates(Case):
         self.not_entered("no folder", missing, "nowhere/dumpdates", "its .new: No such file")
 
     def test_order_of_the_calls(self) -> None:
-        """The lock, the reading, the text, its sync, the rename, and the folder's sync."""
+        """The lock, the reading, the text, its sync, the rename, the end of the lock, and the folder's sync."""
         strace = traced(self, CALLS)
         if not strace:
             return
@@ -324,12 +329,14 @@ class Updates(Case):
         self.entered("under strace", self.dump("/traced", before=strace))
         folder = re.escape(str(self.folder.resolve()))
         wanted = (
-            ("the new file is made", "open", r'"dumpdates\.new", .*O_CREAT\|O_EXCL'),
+            ("the lock is made", "open", r'"dumpdates\.new", .*O_CREAT\|O_EXCL'),
             ("it is locked", "flock", rf"<{folder}/dumpdates\.new>, LOCK_EX"),
             ("the file is read", "read", rf"<{folder}/dumpdates>, .*/old"),
-            ("the text is written", "write", rf"<{folder}/dumpdates\.new>, .*/traced"),
-            ("it is synced", "fsync", rf"<{folder}/dumpdates\.new>"),
-            ("it is renamed", "rename", r'"dumpdates\.new".*"dumpdates"'),
+            ("the new file is made", "open", r'"dumpdates\.new\.1", .*O_CREAT\|O_EXCL'),
+            ("the text is written", "write", rf"<{folder}/dumpdates\.new\.1>, .*/traced"),
+            ("it is synced", "fsync", rf"<{folder}/dumpdates\.new\.1>"),
+            ("it is renamed", "rename", r'"dumpdates\.new\.1".*"dumpdates"'),
+            ("the lock is removed", "unlink", r'"dumpdates\.new"'),
             ("the folder is synced", "fsync", rf"<{folder}>"),
         )
         in_order(self, made_in(self.folder), wanted)

@@ -1,4 +1,4 @@
-"""The messages of docs/MESSAGES.md, and those that the page has no row for, which tests/lib/self_evident.txt lists."""
+"""The messages of docs/MESSAGES.md and docs/OPERATING.md, and those that MESSAGES has no row for, which tests/lib/self_evident.txt lists."""
 
 from __future__ import annotations
 
@@ -8,6 +8,7 @@ from typing import Iterator, NamedTuple
 from tests.lib.places import TOP
 
 PAGE = TOP / "docs/MESSAGES.md"
+OPERATING = TOP / "docs/OPERATING.md"
 SELF_EVIDENT = TOP / "tests/lib/self_evident.txt"
 
 # The sections of both, each with its program.
@@ -53,6 +54,16 @@ def page_tables() -> Iterator[list[Message]]:
         found = re.match(r"\| `([^`]+)` \|", line)
         if found and is_of_messages:
             table.append(Message(f"docs/MESSAGES.md:{number}", section, found[1]))
+
+
+def operating_table() -> Iterator[Message]:
+    """What the first cells of the tables of messages of docs/OPERATING.md quote."""
+    text = OPERATING.read_text()
+    for table in re.finditer(r"^\| Message \|.*\n\|[-|]+\n((?:\|.*\n)+)", text, re.M):
+        for number, row in enumerate(table[1].splitlines(), text.count("\n", 0, table.start(1)) + 1):
+            if row.startswith("| `"):
+                quoted = re.findall(r"`([^`]+)`", row.split(" | ")[0])
+                yield from (Message(f"docs/OPERATING.md:{number}", "rdump", it) for it in quoted)
 
 
 def self_evident() -> Iterator[list[Message]]:

@@ -1,11 +1,11 @@
 """Builds programs or libraries: the libraries that they stand on first, side by side where none stands on another, each by `rt lib`, and then the
 programs by `rt run`.
 
-    python3 -m tests.tools.build [--jobs N] [--tell] CRATE..
+    python3 -m tests.tools.build [--jobs N] CRATE..
 
 It says first how long it is likely to take, and then tells each crate as it is built. `rt` locks each crate below the one that it
 works in, so each runs in a tree of its own under out/build, which has links to the sources and libraries that it needs; what it built
-then goes to the crate's own out/, where `rt` finds it. `--tell` only says what there is to build, and how long it is likely to take.
+then goes to the crate's own out/, where `rt` finds it.
 
 Beside what was built lies a note: the checksum of all the sources that it was made from, and of what was made. The gate writes such notes too,
 beside what `rt ci` leaves. What has a note that fits is not built again.
@@ -37,7 +37,7 @@ WORDS = {"bench_feed": ("replies", "1", "1000")}
 SECONDS_A_CRATE = 90.0
 SECONDS_A_LINE = 0.07
 SECONDS_A_PROGRAM = 190.0
-# How many processors one library keeps busy at most; a program's check and its compiler keep one.
+# How many processors one crate keeps busy at most.
 BUSY = 2.0
 # What a crate runs with that no crate of the longest chain waits for.
 FEW_JOBS = 2
@@ -193,28 +193,9 @@ def chains(crates: Crates) -> dict[str, float]:
     return found
 
 
-def speeds_of(ready: list[Crate], processors: float) -> dict[str, float]:
-    """How many processors each of these keeps busy: the first takes what it can use, the others what is left."""
-    speeds: dict[str, float] = {}
-    for crate in ready:
-        speeds[crate.name] = min(1.0 if crate.is_program() else BUSY, processors)
-        processors -= speeds[crate.name]
-        if not processors:
-            break
-    return speeds
-
-
 def likely_seconds(crates: Crates, processors: int) -> float:
-    """How long these take where nothing else runs, those first that most others wait for."""
-    left, first, seconds = seconds_of(crates), chains(crates), 0.0
-    while left:
-        ready = [crates[it] for it in sorted(left, key=lambda it: first[it], reverse=True) if not any(use in left for use in crates[it].uses)]
-        speeds = speeds_of(ready, processors)
-        step = min(left[name] / speed for name, speed in speeds.items())
-        seconds += step
-        left = {name: rest - step * speeds.get(name, 0) for name, rest in left.items()}
-        left = {name: rest for name, rest in left.items() if rest > 1e-6}
-    return seconds
+    """How long these take where nothing else runs: as long as the longest chain of them, or as all of them at these processors."""
+    return max(max(chains(crates).values()) / min(BUSY, processors), sum(seconds_of(crates).values()) / processors)
 
 
 # One crate.
@@ -358,26 +339,25 @@ def build(crates: Crates, wanted: Crates, processors: int, sums: dict[str, str])
     return 0
 
 
-def build_all(names: list[str], processors: int, only_tell: bool = False) -> int:
+def build_all(names: list[str], processors: int) -> int:
     """Builds these crates, if they are not built as they are, with those below them that are not; answers the exit status."""
     crates = below(listed(), names)
     lost = [it for it in names if not is_noted(crates, it, sums_of(crates))]
     crates = below(crates, lost)
-    with locked({} if only_tell else crates):
+    with locked(crates):
         sums = sums_of(crates)
         wanted = unbuilt(crates, sums)
         if wanted:
             print(told(lost, wanted, processors), flush=True)
-        return build(crates, wanted, processors, sums) if wanted and not only_tell else 0
+        return build(crates, wanted, processors, sums) if wanted else 0
 
 
 def main() -> int:
     parser = argparse.ArgumentParser(description="Builds crates and what they stand on, side by side.")
     parser.add_argument("--jobs", type=int, default=len(os.sched_getaffinity(0)), help="how many processors it may use")
-    parser.add_argument("--tell", action="store_true", help="only say what there is to build")
     parser.add_argument("crate", nargs="+", help="a crate of crates.txt")
     words = parser.parse_args()
-    return build_all(words.crate, words.jobs, words.tell)
+    return build_all(words.crate, words.jobs)
 
 
 if __name__ == "__main__":

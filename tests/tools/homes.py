@@ -35,12 +35,6 @@ HOMES = (
     Home("drives/src/holds.rt", ("DRIVE_LIMIT",), r"; 64\]"),
 )
 
-# Benchmarks and the programs from outside have one home each.
-SCRIPTS = (
-    ("tests", "tests/models/rmtd.py", r"^[A-Z_]*(?:LIMIT|GREATEST)\w* *= *262_?144"),
-    ("bench", "bench/wire.py", r"^[A-Z_]*(?:LIMIT|GREATEST)\w* *= *262_?144"),
-)
-
 
 def without_texts(line: str, antt: bool) -> str:
     """A line of code without its comment and its texts."""
@@ -49,13 +43,9 @@ def without_texts(line: str, antt: bool) -> str:
 
 
 def sources() -> Iterator[Path]:
-    for crate in sorted((TOP / "crates").iterdir()):
-        if crate.name.endswith("_tests"):
-            continue
-        for folder in ("src", "specs", "proofs"):
-            for path in sorted((crate / folder).rglob("*")):
-                if path.suffix in (".rt", ".antt"):
-                    yield path
+    crates = (it for it in sorted((TOP / "crates").iterdir()) if not it.name.endswith("_tests"))
+    every = (it for crate in crates for folder in ("src", "specs", "proofs") for it in sorted((crate / folder).rglob("*")))
+    return (it for it in every if it.suffix in (".rt", ".antt"))
 
 
 def misplaced() -> Iterator[str]:
@@ -79,18 +69,8 @@ def missing() -> Iterator[str]:
                 yield f"crates/{home.file}: no constant {name}"
 
 
-def scripts() -> Iterator[str]:
-    """Each script that sets the greatest record a second time."""
-    for folder, home, pattern in SCRIPTS:
-        for path in sorted((TOP / folder).rglob("*.py")):
-            name = str(path.relative_to(TOP))
-            for number, line in enumerate(path.read_text().splitlines(), 1):
-                if name != home and name != "tests/tools/homes.py" and re.search(pattern, line):
-                    yield f"{name}:{number}: its home is {home}: {line.strip()[:80]}"
-
-
 def main() -> int:
-    found = [*missing(), *misplaced(), *scripts()]
+    found = [*missing(), *misplaced()]
     for line in found:
         print(line)
     print(f"{len(HOMES)} homes of numbers, {len(found)} faults")

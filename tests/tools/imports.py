@@ -13,7 +13,7 @@ import re
 import sys
 from functools import lru_cache
 from pathlib import Path
-from typing import Iterator, NamedTuple
+from typing import Iterator
 
 TOP = Path(__file__).resolve().parents[2]
 CRATES = TOP / "crates"
@@ -21,16 +21,6 @@ CRATES = TOP / "crates"
 USE = re.compile(r"^\s*(?:ghost |pub )?use Rattle\.(\w+)\.(specs|proofs)\.([^\s;{]+?)\.?(?:\{([^}]*)\})?(?: as \S+)?;?\s*$", re.M)
 # The modules that the prover makes: of a function, of the contracts, and of what `src` declares.
 MADE = {"Met", "Goals", "Statement", "contracts", "declared"}
-
-
-class Missing(NamedTuple):
-    """What is wrong with a `use` line: where it stands, and what it names that is not there."""
-
-    file: Path
-    what: str
-
-    def __str__(self) -> str:
-        return f"{self.file.relative_to(TOP)}: {self.what}"
 
 
 def file_of(folder: Path, path: list[str]) -> tuple[Path, list[str]] | None:
@@ -54,8 +44,8 @@ def is_named(name: str, code: str) -> bool:
     return bool(re.search(word, code)) and not re.search(rf"^(?:(?!pub)\w+ )?{re.escape(name)} :", code, re.M)
 
 
-def missing_in(file: Path) -> Iterator[Missing]:
-    """What a file takes from other crates, and is not there."""
+def missing_in(file: Path) -> Iterator[str]:
+    """What a file takes from other crates by its `use` lines, and is not there."""
     own = file.relative_to(CRATES).parts[0]
     for crate, part, told, braced in USE.findall(file.read_text(encoding="utf-8")):
         path = told.split(".")
@@ -63,18 +53,18 @@ def missing_in(file: Path) -> Iterator[Missing]:
             continue
         found = file_of(CRATES / crate / part, path)
         if not found:
-            yield Missing(file, f"{crate} has no file of {part} for {told}")
+            yield f"{crate} has no file of {part} for {told}"
             continue
         names = [*found[1], *(it.split(" as ")[0].strip() for it in braced.split(",") if it.strip())]
         home = found[0].relative_to(CRATES)
-        yield from (Missing(file, f"{home} gives no {it}") for it in names if not is_named(it.replace("◌", ""), code_of(found[0])))
+        yield from (f"{home} gives no {it}" for it in names if not is_named(it.replace("◌", ""), code_of(found[0])))
 
 
 def main() -> int:
     files = sorted(it for kind in ("antt", "rt") for it in CRATES.rglob(f"*.{kind}") if "out" not in it.relative_to(CRATES).parts)
-    found = [it for file in files for it in missing_in(file)]
-    for it in found:
-        print(it)
+    found = [f"{file.relative_to(TOP)}: {it}" for file in files for it in missing_in(file)]
+    for line in found:
+        print(line)
     print(f"{len(files)} files, {len(found)} names that other crates do not give")
     return 1 if found else 0
 

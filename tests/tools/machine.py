@@ -9,7 +9,7 @@ import os
 import threading
 import time
 from collections import defaultdict
-from contextlib import contextmanager
+from contextlib import contextmanager, suppress
 from pathlib import Path
 from typing import Iterator
 
@@ -92,51 +92,36 @@ class Turns:
                 self.running -= 1
 
 
-def words_of(process: Path) -> list[str]:
-    """The command line of a process, none where it has ended."""
-    try:
-        return process.joinpath("cmdline").read_bytes().decode(errors="replace").split("\0")
-    except OSError:
-        return []
+def processes() -> dict[str, tuple[str, list[str]]]:
+    """The parent and the command line of each process, by its number."""
+    found = {}
+    for it in Path("/proc").glob("[0-9]*"):
+        # It may have ended.
+        with suppress(OSError):
+            words = it.joinpath("cmdline").read_bytes().decode(errors="replace").split("\0")
+            found[it.name] = it.joinpath("stat").read_text(errors="replace").rpartition(")")[2].split()[1], words
+    return found
 
 
-def parent_of(process: Path) -> Path | None:
-    """The parent of a process, None where it has ended or has none."""
-    try:
-        told = process.joinpath("stat").read_text(errors="replace")
-    except OSError:
-        return None
-    parent = told.rpartition(")")[2].split()[1]
-    return Path("/proc", parent) if parent != "0" else None
+def provers() -> list[list[str]]:
+    """The command lines of the provers below this process, but for those that a prover started, to work for it."""
+    every = processes()
+
+    def above(number: str) -> Iterator[str]:
+        while number in every:
+            number = every[number][0]
+            yield number
+
+    found = [it for it, (_, words) in every.items() if words[0].endswith("/rattle") and str(os.getpid()) in above(it)]
+    return [every[it][1] for it in found if every[it][0] not in found]
 
 
-def is_ours(process: Path | None) -> bool:
-    """Whether a process is below this one."""
-    while process and process.name != str(os.getpid()):
-        process = parent_of(process)
-    return process is not None
-
-
-def provers() -> list[Path]:
-    """The processes of the prover below this one. A process that a prover starts, to work for it, is no other prover."""
-    every = (it for it in Path("/proc").iterdir() if it.name.isdigit())
-    found = [it for it in every if "".join(words_of(it)[:1]).endswith("/rattle") and is_ours(it)]
-    return [it for it in found if parent_of(it) not in found]
-
-
-def check_of(process: Path) -> tuple[str, str] | None:
-    """The crate that a process of the prover checks, and what of it; None if it does something else, or has ended."""
-    words = words_of(process)
+def check_of(words: list[str]) -> tuple[str, str] | None:
+    """The crate that a prover with this command line checks, and what of it; None if it does something else."""
     if not {"check", "build"} & set(words[1:2]) or "--crate-name" not in words:
         return None
-    crate = words[words.index("--crate-name") + 1]
-    try:
-        folder = process.joinpath("cwd").readlink()
-    except OSError:
-        return None
-    if folder.name != crate or any("rt-edits-" in word for word in words):
-        return crate, "edits"
-    return crate, "tests" if "--test" in words else "proof"
+    is_edit = any("-edits" in word for word in words)
+    return words[words.index("--crate-name") + 1], "edits" if is_edit else "tests" if "--test" in words else "proof"
 
 
 class Watch(threading.Thread):

@@ -1,17 +1,18 @@
-"""Compares docs/MESSAGES.md, and the list of messages that it has no row for, with the texts of the programs, both ways.
+"""Compares the messages of the documents, and the list of those that have no row there, with the texts of the programs, both ways.
 
     python3 -m tests.tools.messages
 
-A text of the source is a string in the crates of a program that has two words or more. Each is a part of a message of the page or of the
-list, in a section of its program. A message of the page is the first cell of a row of a table of messages. The list is
-tests/lib/self_evident.txt: it has the messages that say themselves what is wrong and what to do, and those that a row of the page abbreviates
-by `..`. Each message consists of texts of the source alone, or abbreviates one of the list.
+A text of the source is a string in the crates of a program, with those below it, that has two words or more. Each is a part of a message of
+docs/MESSAGES.md or of the list, in a section of a program that has the crate. A message of a document is in the first cell of a row of a table of
+messages. The list is tests/lib/self_evident.txt: it has the messages that say themselves what is wrong and what to do, those that a row abbreviates
+by `..`, and those of docs/OPERATING.md. Each message consists of texts of the source alone, or abbreviates one of the list; one of
+OPERATING has parts of such texts.
 
 Some parts of a text vary. In the source such a part is `{..}`. In a message it is `..`, a number, or a word in capitals, as FILE. What lies
 between two such parts, without the punctuation around it, is a piece. Pieces are what is compared.
 
-The messages of each table, and of each section of the list, are in alphabetical order, and no section has one twice. Most texts that refuse
-wrong arguments are left out, since they name what is wrong.
+The messages of each table of MESSAGES, and of each section of the list, are in alphabetical order, and no section has one twice. Most texts that
+refuse wrong arguments are left out, since they name what is wrong.
 """
 
 from __future__ import annotations
@@ -20,34 +21,13 @@ import re
 import sys
 from typing import Iterator, NamedTuple
 
-from tests.lib.messages import Message, page_tables, self_evident
+from tests.lib.messages import Message, operating_table, page_tables, self_evident
 from tests.lib.places import CRATES
+from tests.tools.build import below, listed
 
-# The crates in which each program's texts are.
-PROGRAMS = {
-    "rmtd": ("rmtd", "rmtd_serve", "sockets", "reel_files", "file_medium"),
-    "rdump": (
-        "catalog",
-        "named_files",
-        "printable",
-        "rdump",
-        "rdump_cat",
-        "rdump_commands",
-        "rdump_dump",
-        "rdump_fetch",
-        "rdump_files",
-        "rdump_list",
-        "rdump_net",
-        "rdump_read",
-        "rdump_sums",
-        "rdump_system",
-        "refusals",
-        "remote_tape",
-    ),
-    "rsim": ("rsim", "rsim_schedule"),
-}
-# Crates whose faults each program may print. The page need not have them.
-LIBRARIES = ("rmt_wire", "dump_client", "dump_run", "dumpdates", "rmtd_args", "rdump_args")
+PROGRAMS = ("rmtd", "rdump", "rsim")
+# Crates whose faults a program may print, or whose texts are answers. The page need not have them.
+LIBRARIES = ("rmt_wire", "rmt_server", "dump_client", "dump_run", "dumpdates", "rmtd_args", "rdump_args")
 # Texts that no program prints: what is read from other files, the forms of dumpdates and of a checkpoint, the help of `rsim`, and a fault
 # in whose place the system's reason is printed.
 NOT_PRINTED = (
@@ -92,7 +72,7 @@ def pieces(text: str) -> list[str]:
     return [it for it in found if re.search("[A-Za-z]", it)]
 
 
-def strings(crates: tuple[str, ...]) -> Iterator[Text]:
+def strings(crates: list[str]) -> Iterator[Text]:
     """Each string in the sources of these crates."""
     for path in (it for crate in crates for it in sorted((CRATES / crate / "src").rglob("*.rt"))):
         source = path.read_text()
@@ -110,25 +90,40 @@ def is_printed(it: Text) -> bool:
     return it.text not in NOT_PRINTED and bool(whole_file or len(words) > 1)
 
 
-def check_strings(program: str, messages: list[Message]) -> Iterator[str]:
-    """Each string that is in no message."""
-    known = [" .. ".join(pieces(it.text)) for it in messages]
-    for it in strings(PROGRAMS[program]):
-        wanted = re.compile(".*".join(map(re.escape, pieces(it.text))))
-        if is_printed(it) and not any(wanted.search(message) for message in known):
-            yield f"crates/{it.place}: docs/MESSAGES.md and self_evident.txt have no such message of {program}: {it.text.strip()}"
+def crates_of(program: str) -> list[str]:
+    """A program's crate and those below it."""
+    return [*below(listed(), [program])]
 
 
-def check_messages(program: str, messages: list[Message], listed: list[Message]) -> Iterator[str]:
+def check_strings(messages: list[Message]) -> Iterator[str]:
+    """Each string that is in no message of a program that has its crate."""
+    above = {it: [program for program in PROGRAMS if it in crates_of(program)] for program in PROGRAMS for it in crates_of(program)}
+    for crate, programs in above.items():
+        known = [" .. ".join(pieces(it.text)) for it in messages if it.program in programs]
+        for it in strings([crate] if crate not in LIBRARIES else []):
+            wanted = re.compile(".*".join(map(re.escape, pieces(it.text))))
+            if is_printed(it) and not any(wanted.search(message) for message in known):
+                yield f"crates/{it.place}: docs/MESSAGES.md and self_evident.txt have no such message: {it.text.strip()}"
+
+
+def check_messages(messages: list[Message], others: list[Message]) -> Iterator[str]:
     """Each message that has a piece of no string, but for those that abbreviate one of the list."""
-    known = {piece for it in strings(PROGRAMS[program] + LIBRARIES) for piece in pieces(it.text)} | set(FROM_THE_KIT)
-    one = "|".join(map(re.escape, sorted(known, key=len, reverse=True)))
-    several = re.compile(f"(?:{one})(?:[ ,:;/()]+(?:{one}))*")
-    for it in messages:
-        if not any(it.covers(other.text) for other in listed):
-            for piece in pieces(it.text):
-                if not several.fullmatch(piece):
-                    yield f"{it.place}: no text of {program} is so: {piece}"
+    for program in PROGRAMS:
+        known = {piece for it in strings(crates_of(program)) for piece in pieces(it.text)} | set(FROM_THE_KIT)
+        one = "|".join(map(re.escape, sorted(known, key=len, reverse=True)))
+        several = re.compile(f"(?:{one})(?:[ ,:;/()]+(?:{one}))*")
+        for it in (it for it in messages if it.program == program):
+            if not any(other.program == program and it.covers(other.text) for other in others):
+                for piece in pieces(it.text):
+                    if not several.fullmatch(piece):
+                        yield f"{it.place}: no text of {program} is so: {piece}"
+
+
+def check_operating() -> Iterator[str]:
+    """Each message of docs/OPERATING.md that has a piece of no string."""
+    texts = "\n".join(it.text for program in PROGRAMS for it in strings(crates_of(program)))
+    for it in operating_table():
+        yield from (f"{it.place}: no program has a text {piece}" for piece in pieces(it.text) if piece not in texts)
 
 
 def check_order(table: list[Message]) -> Iterator[str]:
@@ -148,16 +143,12 @@ def check_twice(rows: list[Message], listed: list[Message]) -> Iterator[str]:
 
 def main() -> int:
     tables, lists = list(page_tables()), list(self_evident())
-    rows, listed = [it for table in tables for it in table], [it for section in lists for it in section]
+    rows, others = [it for table in tables for it in table], [it for section in lists for it in section]
     wrong = [line for table in (*tables, *lists) for line in check_order(table)]
-    wrong += check_twice(rows, listed)
-    for program in PROGRAMS:
-        own = [it for it in listed if it.program == program]
-        messages = [it for it in (*rows, *listed) if it.program == program]
-        wrong += [*check_strings(program, messages), *check_messages(program, messages, own)]
+    wrong += [*check_twice(rows, others), *check_strings([*rows, *others]), *check_messages([*rows, *others], others), *check_operating()]
     for line in wrong:
         print(line)
-    print(f"{len(rows)} messages of docs/MESSAGES.md, {len(listed)} of self_evident.txt, {len(wrong)} faults")
+    print(f"{len(rows)} messages of docs/MESSAGES.md, {len(others)} of self_evident.txt, {len(wrong)} faults")
     return 1 if wrong else 0
 
 

@@ -86,7 +86,7 @@ class Work:
 
     def __init__(self, folder: Path, crate: str, libraries: Libraries, turn: Callable[[], ContextManager[None]] = nullcontext) -> None:
         self.crate, self.turn = crate, turn
-        # No name that is the crate's alone, so that the gate's watch takes the checks there for those of edits.
+        # By this name the gate's watch knows the checks there for those of edits.
         self.folder = folder / f"{crate}-edits"
         self.words = libraries.words(crate)
         self.checks, self.seconds = 0, 0.0

@@ -26,47 +26,25 @@ NOT_BUILT = f"""{SERVER} is not built yet: `make build` proves and builds it.
 Its sources are compiled without their proofs now, in a minute or two.
 """
 
-ACCESS = ("for reading", "for writing", "for reading and writing", "with no access")
+# What the server did by a request that it did not refuse, by the letter of the request, and by the number of an operation.
+DONE = {"O": "opened the drive", "C": "closed the drive, and rewound its reel", "W": "wrote a record", "R": "read a record"}
 OPERATIONS = (
-    "wrote {}",
-    "went forward over {}",
-    "went back over {}",
-    "went forward over {}",
-    "went back over {}",
+    "wrote marks",
+    "went forward over marks",
+    "went back over marks",
+    "went forward over records",
+    "went back over records",
     "rewound the reel",
     "took the reel away to the bin",
     "did nothing",
 )
-PASSED = ("mark", "mark", "mark", "record", "record", "", "", "")
-
-
-def counted(count: int, thing: str) -> str:
-    return f"{count} {thing}{'' if count == 1 else 's'}"
-
-
-def refused(answer: bytes) -> str:
-    number, text = answer[1:].decode().splitlines()[:2]
-    return f"refused it: error {number}, {text}"
-
-
-def carried_out(request: bytes, answer: bytes) -> str:
-    """What the server did with a request that it did not refuse."""
-    letter, head, *rest = chr(request[0]), *request[1:].split(b"\n")
-    number = int(answer[1:].split(b"\n")[0])
-    if letter == "O":
-        return f"opened the drive {head.decode()} {ACCESS[int(rest[0].split()[0]) % 4]}"
-    if letter == "C":
-        return "closed the drive, and rewound its reel"
-    if letter == "W":
-        return f"wrote a record of {counted(number, 'byte')}" if number else "wrote nothing: there is no room"
-    if letter == "R":
-        return f"read {counted(number, 'byte')} of a record" if number else "read no byte: a mark, or the end"
-    return OPERATIONS[int(head)].format(counted(number, PASSED[int(head)]))
 
 
 def done(turn: Turn) -> str:
     """What the server did, in words."""
-    said = refused(turn.answer) if turn.answer.startswith(b"E") else carried_out(turn.request, turn.answer)
+    letter, head = chr(turn.request[0]), turn.request[1:].split(b"\n")[0]
+    said = "refused it" if turn.answer.startswith(b"E") else OPERATIONS[int(head)] if letter == "I" else DONE[letter]
+    said = "read no byte" if letter == "R" and turn.answer == b"A0\n" else said
     return f"{said}; now at place {turn.place}" if turn.place else said
 
 

@@ -34,32 +34,25 @@ class Bench(Case):
     def test_no_ratios(self) -> None:
         self.same("no ratio was told", self.printed(), (1, ["No benchmark has told a ratio: make bench runs them."]))
 
-    def test_table(self) -> None:
+    def test_ratios(self) -> None:
         told.ratio("a / b", 3.0)
         told.ratio_of_times("one / other", 0.5, 0.25, 1.5)
         told.ratio("a / b", 1.5, 2.0, "3 / 2")
         told.ratio("bytes", 7.0)
-        status, lines = self.printed()
-        self.same("the status", status, 0)
+        file = self.folder / "ratios.json"
+        status, lines = self.printed("--json", str(file))
         rows = [
             "a / b            1.50      <= 2  held      3 / 2",
             "one / other      2.00    <= 1.5  NOT HELD  500 ms / 250 ms",
             "bytes            7.00",
+            "1 of 2 are as wanted",
+            "machine: 4 processors, a processor; Linux 6.1; ext4 under /tmp; load 0.5, 1.2, 2.0",
         ]
-        self.same("each name is there once, with its last ratio", lines[1:4], rows)
-        self.same("how many are as wanted", lines[4], "1 of 2 are as wanted")
-        self.same("the machine", lines[5], "machine: 4 processors, a processor; Linux 6.1; ext4 under /tmp; load 0.5, 1.2, 2.0")
-
-    def test_json(self) -> None:
-        told.ratio("a / b", 1.5, 2.0, "3 / 2")
-        told.ratio("c / d", 3.0, 2.5)
-        told.ratio("bytes", 7.0)
-        file = self.folder / "ratios.json"
-        self.printed("--json", str(file))
+        self.same("each name is there once, with its last ratio, and then the machine", (status, lines[1:]), (0, rows))
         machine = {"processors": 4, "model": "a processor", "system": "Linux 6.1", "file_system": "ext4 under /tmp", "load": [0.5, 1.25, 2.0]}
         ratios = [
             {"name": "a / b", "value": 1.5, "wanted": 2.0, "figures": "3 / 2", "held": True},
-            {"name": "c / d", "value": 3.0, "wanted": 2.5, "figures": "", "held": False},
+            {"name": "one / other", "value": 2.0, "wanted": 1.5, "figures": "500 ms / 250 ms", "held": False},
             {"name": "bytes", "value": 7.0, "wanted": None, "figures": "", "held": None},
         ]
         self.same("the same as JSON", json.loads(file.read_text()), {"machine": machine, "ratios": ratios})

@@ -56,22 +56,25 @@ def edit(name: str, old: str, new: str) -> Edit:
     return Edit(name, changes, edits.places_of("words", folder, changes), further.only_of("words", folder, changes))
 
 
-def make_repository(top: Path) -> None:
-    """A repository of two crates, one on the other, with an edit."""
-    for name in ("words", "other"):
-        (top / "crates" / name / "src").mkdir(parents=True)
-        (top / "crates" / name / "specs").mkdir()
-        (top / "crates" / name / "specs/Words.antt").write_text("-- words\n")
-    (top / "crates/words/src/lib.rt").write_text(CRATE)
-    (top / "crates/other/src/lib.rt").write_text("//! Others.\n")
-    (top / "crates/words/further").mkdir()
-    (top / "crates/words/further/counts_one_less.edit").write_text("file: src/lib.rt\nold:         self.came\nnew:         self.came - 1\n")
-    (top / "crates.txt").write_text("# Two.\nother:\nwords: other itoa\nabove: words\n")
-    (top / "HANDLES").write_text("Handles allowed: none.\n")
+FILES = {
+    "crates/words/src/lib.rt": CRATE,
+    "crates/words/specs/Words.antt": "-- words\n",
+    "crates/words/further/counts_one_less.edit": "file: src/lib.rt\nold:         self.came\nnew:         self.came - 1\n",
+    "crates/other/src/lib.rt": "//! Others.\n",
+    "crates.txt": "# Two.\nother:\nwords: other itoa\nabove: words\n",
+    "HANDLES": "Handles allowed: none.\n",
+}
+
+
+def write_files(top: Path, files: dict[str, str]) -> None:
+    """Writes files below a folder, by their paths."""
+    for name, text in files.items():
+        (top / name).parent.mkdir(parents=True, exist_ok=True)
+        (top / name).write_text(text, encoding="utf-8")
 
 
 class Made(Case):
-    """A made repository in a temporary folder, with an empty folder for refusals."""
+    """A made repository of two crates, one on the other, with an edit, in a temporary folder, and an empty folder for refusals."""
 
     def setUp(self) -> None:
         self.folder = Path(self.enterContext(tempfile.TemporaryDirectory(prefix="test-further-")))
@@ -81,18 +84,33 @@ class Made(Case):
             self.enterContext(patch.object(module, "TOP", self.top))
         self.enterContext(patch.object(build, "CRATES", self.top / "crates"))
         self.enterContext(patch.object(build, "version", lambda: "a kit"))
-        make_repository(self.top)
+        write_files(self.top, FILES)
 
 
 class Places(Made):
     """Which functions an edit changes."""
 
-    def test_functions(self) -> None:
-        long, less = edit("long", "word.len() > LONGEST", "word.len() >= LONGEST"), edit("less", "self.came", "self.came - 1")
-        self.same("a free function", (long.places, long.only), ([("words", "is_long")], ["words::is_long"]))
-        self.same("a method", (less.places, less.only), ([("words", "count")], ["Words::count"]))
-        out = edit("out", "WordFault::OutOfMemory", "WordFault::Other")
-        self.same("a method of a trait", (out.places, out.only), ([("words", "from")], ["WordFaultFromAllocError::from"]))
+    def test_places(self) -> None:
+        """The functions that an edit changes, none named "" among them if it changes no more, and what a check is told to look at."""
+        body, head = "word.len() > LONGEST", "        ensures { result ≡ self.now.count }"
+        long, wide, none = "const LONGEST: usize = 7;", "pub(crate) const WIDEST: usize = 7;", list[str]()
+        traits = ["WordFaultFromAllocError::from", "WordFaultFromAllocError::other"]
+        for name, old, new, places, only in (
+            ("a free function", body, "word.len() >= LONGEST", ["is_long"], ["words::is_long"]),
+            ("a method", "self.came", "self.came - 1", ["count"], ["Words::count"]),
+            ("a method of a trait", "WordFault::OutOfMemory", "WordFault::Other", ["from"], traits[:1]),
+            ("a use line", "use other::Word;", "use other::{Other, Word};", none, none),
+            ("a constant changes who names it", long, "const LONGEST: usize = 8;", ["is_long"], ["words::is_long"]),
+            ("one that other files see is not local", wide, "pub(crate) const WIDEST: usize = 8;", [""], none),
+            ("what more of the crate sees changes none", long, f"pub(crate) {long}", none, none),
+            ("but where something else changes too", long, "pub(crate) const LONGEST: usize = 8;", ["is_long"], ["words::is_long"]),
+            ("what is added to a head is a body", head, f"{head} {{ 0 }} fn whole(&self) -> u64", ["count", "whole"], ["Words::count"]),
+            ("what is added to the impl of a trait", "fn from(", "fn other() {} fn from(", ["from", "other"], traits),
+            ("the same text changes nothing", "self.count = 0;", "self.count = 0;", none, none),
+        ):
+            found = edit(name, old, new)
+            self.same(name, ([*map("::".join, found.places)], found.only), ([f"words::{it}" for it in places], only))
+            self.same(f"{name}: what it is", (found.is_local(), found.is_of_constant()), ("" not in places, old in (long, wide)))
 
     def test_owners(self) -> None:
         for head, owner in (
@@ -102,27 +120,6 @@ class Places(Made):
             ("pub fn open() {", ""),
         ):
             self.same(f"the owner of {head}", further.owner_of(f"impl Other {{\n}}\n{head}\n    fn open"), owner)
-
-    def test_outside_functions(self) -> None:
-        self.same("a use line is none of a function", edit("use", "use other::Word;", "use other::{Other, Word};").places, [])
-        of_all = edit("const", "const LONGEST: usize = 7;", "const LONGEST: usize = 8;")
-        self.same(
-            "a constant changes who names it", (of_all.places, of_all.is_local(), of_all.is_of_constant()), ([("words", "is_long")], True, True)
-        )
-        long = edit("long", "word.len() > LONGEST", "word.len() >= LONGEST")
-        self.same("a body that names one changes none", long.is_of_constant(), False)
-        wide = edit("wide", "pub(crate) const WIDEST: usize = 7;", "pub(crate) const WIDEST: usize = 8;")
-        self.same("one that other files see is not local", wide.is_local(), False)
-        seen = edit("seen", "const LONGEST: usize = 7;", "pub(crate) const LONGEST: usize = 7;")
-        self.same("what more of the crate sees changes none", (seen.places, seen.is_local()), ([], True))
-        other = edit("other", "const LONGEST: usize = 7;", "pub(crate) const LONGEST: usize = 8;")
-        self.same("but it does where something else changes too", other.places, [("words", "is_long")])
-
-    def test_added_functions(self) -> None:
-        head = edit("head", "        ensures { result ≡ self.now.count }", "        ensures { result ≡ self.now.count } { 0 } fn whole(&self) -> u64")
-        self.same("what is added to a head is a body", (head.places, head.only), ([("words", "count"), ("words", "whole")], ["Words::count"]))
-        more = edit("more", "    fn from(_: AllocError)", "    fn other(&self) {} fn from(_: AllocError)")
-        self.same("what is added to the impl of a trait is looked at", more.only[-1:], ["WordFaultFromAllocError::other"], more)
 
     def test_more_lines(self) -> None:
         found = edits.pairs("file: src/lib.rt\nold: a\nnew: b\nmore:   c\nmore:\nmore: d: e\nfile: src/word.rt\nold: f\nnew: g\n# breaks: words\n")
@@ -139,9 +136,6 @@ class Places(Made):
             ("another place", [Pair(body, "b", "c"), *wrong[1:]], False),
         ):
             self.same(title, edits.is_beside(control, wrong), wanted)
-
-    def test_no_change(self) -> None:
-        self.same("the same text changes nothing", edit("same", "self.count = 0;", "self.count = 0;").places, [])
 
 
 class Lots(Made):
@@ -167,7 +161,7 @@ class Lots(Made):
 
 
 class Prover(proved.Work):
-    """A crate whose functions are right in this text alone, and two of which call others."""
+    """A crate whose functions are right in this text alone, and two of which call others. It has none of the name `List::first`."""
 
     calls = {"first": "second", "second": "third"}
 
@@ -180,6 +174,8 @@ class Prover(proved.Work):
         names = [it.new for it in changes]
         self.asked.append(names)
         self.only.append([*only])
+        if "List::first" in only:
+            return proved.Checked(2, "rattle: error: `words` has no function `List::first`: help: write the name that a check prints")
         if self.unread & {*names}:
             return proved.Checked(1, "src/lib.rt:1:1: error: unexpected word\nlogic=not-proved")
         lines, bad = [], {it for it in names if it in self.wrong}
@@ -188,23 +184,6 @@ class Prover(proved.Work):
             waits = f"no proof: it calls `words::{callee}`, which is not proved" if callee in bad else "proved"
             lines.append(f"fn words::{name}: {'not proved' if name in bad and callee not in bad else waits}")
         return proved.Checked(1 if bad else 0, "\n".join([*lines, f"only={len(names)} proved={len(names) - len(bad)}"]))
-
-
-class Killed(Prover):
-    """A prover that is killed each time."""
-
-    def check(self, changes: list[Pair], only: Iterable[str] = ()) -> proved.Checked:
-        return proved.Checked(-9, "")
-
-
-class Misnamed(Prover):
-    """A prover that finds no function of the name `List::first`."""
-
-    def check(self, changes: list[Pair], only: Iterable[str] = ()) -> proved.Checked:
-        if "List::first" not in only:
-            return super().check(changes, only)
-        self.only.append([*only])
-        return proved.Checked(2, "rattle: error: `words` has no function `List::first`: help: write the name that a check prints")
 
 
 EVERY = ("first", "second", "third", "fourth", "fifth")
@@ -229,38 +208,30 @@ class Outcomes(Case):
         (self.folder / "src").mkdir()
         (self.folder / "src/lib.rt").write_text(" ".join(f"[{it}]" for it in EVERY))
 
-    def test_all_are_refused(self) -> None:
-        prover = Prover(self.folder, EVERY)
-        found = further.outcomes(prover, made(*EVERY))
-        self.same("each is refused", beginnings(found), dict.fromkeys(EVERY, "refused"), found)
-        self.same("those that wait are tried again, and not together", prover.asked, [[*EVERY], ["first"], ["second"]])
-
-    def test_one_is_proved(self) -> None:
-        found = further.outcomes(Prover(self.folder, {*EVERY} - {"third"}), made(*EVERY))
-        self.same("one that is proved is told", beginnings(found), {**dict.fromkeys(EVERY, "refused"), "third": "NOT REFUSED"}, found)
-
-    def test_one_cannot_be_read(self) -> None:
-        found = further.outcomes(Prover(self.folder, EVERY, {"fourth"}), made(*EVERY))
-        self.same("one that can't be read is found", beginnings(found), {**dict.fromkeys(EVERY, "refused"), "fourth": "BAD EDIT"}, found)
-
-    def test_a_check_is_killed(self) -> None:
-        found = further.outcomes(Killed(self.folder, EVERY), made(*EVERY))
-        self.same("none is refused by a check that was killed", beginnings(found), dict.fromkeys(EVERY, "NOT TRIED"), found)
-
-    def test_one_cannot_be_applied(self) -> None:
+    def test_outcomes(self) -> None:
         lost = Edit("lost", [Pair("src/lib.rt", "no such text", "")], [("words", "lost")], [])
-        found = further.outcomes(Prover(self.folder, {"first"}), [*made("first"), lost])
-        self.same("one that can't be applied is told", beginnings(found)["lost"], "BAD EDIT", found)
+        for name, wrong, unread, other, said in (
+            ("each is refused, but for one that can't be applied", EVERY, (), "lost", "BAD EDIT"),
+            ("one that is proved is told", ("first", "second", "fourth", "fifth"), (), "third", "NOT REFUSED"),
+            ("one that can't be read is found", EVERY, ("fourth",), "fourth", "BAD EDIT"),
+        ):
+            found = further.outcomes(Prover(self.folder, wrong, unread), [*made(*EVERY), lost])
+            self.same(name, beginnings(found), {**dict.fromkeys(EVERY, "refused"), "lost": "BAD EDIT", other: said}, found)
+        prover = Prover(self.folder, EVERY)
+        further.outcomes(prover, made(*EVERY))
+        self.same("those that wait are tried again, and not together", prover.asked, [[*EVERY], ["first"], ["second"]])
+        with patch.object(Prover, "check", lambda *_: proved.Checked(-9, "")):
+            found = further.outcomes(prover, made(*EVERY))
+        self.same("none is refused by a check that was killed", beginnings(found), dict.fromkeys(EVERY, "NOT TRIED"), found)
 
     def test_names_that_are_not_found(self) -> None:
         """A function that is not found by its name is looked for in its module."""
         one = Edit("first", [Pair("src/lib.rt", "[first]", "first")], [("words::list", "first")], ["List::first"])
-        prover = Misnamed(self.folder, {"first"})
-        further.tried(prover, [one, *made("fourth")])
-        self.same("a name that is not found", prover.only, [["List::first", "words::fourth"], ["list", "words::fourth"]])
-        prover = Misnamed(self.folder, {"first"})
-        further.tried(prover, [one._replace(places=[("words", "first")]), *made("fourth")])
-        self.same("one of the root module", prover.only, [["List::first", "words::fourth"], []])
+        root = one._replace(places=[("words", "first")])
+        for name, first, instead in (("a name that is not found", one, ["list", "words::fourth"]), ("one of the root module", root, [])):
+            prover = Prover(self.folder, {"first"})
+            further.tried(prover, [first, *made("fourth")])
+            self.same(name, prover.only, [["List::first", "words::fourth"], instead])
 
 
 class Logs(Case):
@@ -287,14 +258,16 @@ class Logs(Case):
             Edit("in_list", [], [("words::list", "enter")], ["List::enter"]),
             Edit("in_text", [], [("words::text", "enter")], ["Text::enter"]),
         ]
-        end = "only=2 proved=1\n"
-        log = f"fn words::list::List::enter: not proved\nfn words::text::Text::enter: proved\n{end}"
-        self.same("the one that is refused is shown", [*further.refused_of(both, log)], ["in_list"])
-        log = f"fn words::list::List::enter: not proved\nfn words::list::Text::enter: proved\n{end}"
-        self.same("where the log does not tell which is whose, none is", [*further.refused_of(both, log)], [])
-        self.same("and one that is tried alone is", [*further.refused_of(both[1:], log)], ["in_text"])
-        log = f"fn words::text::enter: proved\nfn words::list::List::enter: proved\nfn words::list::Text::enter: not proved\n{end}"
-        self.same("nor one whose module has the type of the other", [*further.refused_of(both, log)], [])
+        refused = "fn words::list::List::enter: not proved\n"
+        unclear = f"{refused}fn words::list::Text::enter: not proved\n"
+        other = "fn words::text::enter: proved\nfn words::list::List::enter: proved\nfn words::list::Text::enter: not proved\n"
+        for name, lot, log, wanted in (
+            ("the one that is refused is shown", both, f"{refused}fn words::text::Text::enter: proved\n", ["in_list"]),
+            ("where the log does not tell which is whose, none is", both, unclear, []),
+            ("and one that is tried alone is", both[1:], unclear, ["in_text"]),
+            ("nor one whose module has the type of the other", both, other, []),
+        ):
+            self.same(name, [*further.refused_of(lot, f"{log}only=2 proved=1\n")], wanted)
 
     def test_waits(self) -> None:
         both = [self.enter, Edit("from", [], [("words", "from")], [])]
@@ -316,66 +289,47 @@ class Keys(Made):
         return refusals.key_of(refusals.sum_of_crate("words"), self.top / "crates/words/further/counts_one_less.edit")
 
     def test_what_decides(self) -> None:
-        for name, text in (
-            ("crates/words/further/counts_one_less.edit", "file: src/lib.rt\nold:         self.came\nnew:         self.came - 2\n"),
-            ("crates/words/src/lib.rt", CRATE.replace("7", "8")),
-            ("crates/words/specs/Words.antt", "abbrev pub other : ℕ\n"),
-            ("crates/other/src/lib.rt", "fn other() {}\n"),
-            ("crates.txt", "other:\nwords: other\nabove: words\n"),
-            ("HANDLES", "Handles allowed: Wait.\n"),
+        """Whether a file with another text, or one more file, makes another key."""
+        source = "crates/words/src/lib.rt"
+        for name, text, decides in (
+            ("crates/words/further/counts_one_less.edit", "file: src/lib.rt\nold:         self.came\nnew:         self.came - 2\n", True),
+            (source, CRATE.replace("7", "8"), True),
+            (source, f"const A: u8 = 1; // A comment.\n{CRATE}", True),
+            (source, f"// A comment.\n\n{CRATE}", False),
+            ("crates/words/specs/Words.antt", "abbrev pub other : ℕ\n", True),
+            ("crates/words/proofs/More.antt", "more\n", True),
+            ("crates/words/out/made.antt", "made\n", False),
+            ("crates/other/src/lib.rt", "fn other() {}\n", True),
+            ("crates.txt", "other:\nwords: other\nabove: words\n", True),
+            ("HANDLES", "Handles allowed: Wait.\n", True),
         ):
-            was, before = (self.top / name).read_text(), self.key()
-            (self.top / name).write_text(text)
-            self.holds(f"another {name} has another key", self.key() != before)
-            (self.top / name).write_text(was)
+            before = self.key()
+            write_files(self.top, {name: text})
+            self.same(f"another {name} has another key", self.key() != before, decides, text)
+            (self.top / name).unlink()
+            write_files(self.top, FILES)
             self.same(f"the same {name} has the same", self.key(), before)
-
-    def test_comments(self) -> None:
-        before, source = self.key(), self.top / "crates/words/src/lib.rt"
-        source.write_text(f"// A comment.\n\n{CRATE}")
-        self.same("another comment has the same key", self.key(), before)
-        source.write_text(f"const A: u8 = 1; // A comment.\n{CRATE}")
-        self.holds("but a line with more than a comment has another", self.key() != before)
-
-    def test_kit(self) -> None:
-        before = self.key()
         with patch.object(build, "version", lambda: "a later kit"):
             self.holds("another kit has another key", self.key() != before)
-
-    def test_files(self) -> None:
-        before = self.key()
-        (self.top / "crates/words/out").mkdir()
-        (self.top / "crates/words/out/made.antt").write_text("-- made\n")
-        self.same("what is built decides nothing", self.key(), before)
-        (self.top / "crates/words/proofs").mkdir()
-        (self.top / "crates/words/proofs/More.antt").write_text("more\n")
-        self.holds("one more proof has another key", self.key() != before)
 
 
 class Kept(Made):
     """What is kept of refusals."""
 
-    name = "0" * 64
-
     def test_kept(self) -> None:
-        refusals.keep(self.name, "NOT REFUSED")
-        found = refusals.kept(self.name), (refusals.place() / self.name).exists()
-        self.same("what is not refused is not kept", found, ("", False))
-        refusals.keep(self.name, "refused: a goal")
-        self.same("a refusal is kept", refusals.kept(self.name), "refused: a goal")
-
-    def test_other_files(self) -> None:
-        refusals.keep(self.name, "refused: a goal")
-        for name, text in (
-            ("damaged", f"{self.name}\nrefu"),
-            ("cut", f"{self.name}\nrefused: a g"),
-            ("another's", f"{'1' * 64}\nrefused: a goal\n"),
-            ("no refusal", f"{self.name}\nNOT REFUSED\n"),
+        name = "0" * 64
+        refusals.keep(name, "NOT REFUSED")
+        self.same("what is not refused is not kept", refusals.kept(name), "")
+        refusals.keep(name, "refused: a goal")
+        self.same("a refusal is", refusals.kept(name), "refused: a goal")
+        for title, left in (
+            ("one that is damaged", f"{name}\nrefu".encode()),
+            ("one that is another's", f"{'1' * 64}\nrefused: a goal\n".encode()),
+            ("one that is no refusal", f"{name}\nNOT REFUSED\n".encode()),
+            ("one that is no text", b"\xff\xfe"),
         ):
-            (refusals.place() / self.name).write_text(text)
-            self.same(f"one that is {name} counts for nothing", refusals.kept(self.name), "")
-        (refusals.place() / self.name).write_bytes(b"\xff\xfe")
-        self.same("one that is no text counts for nothing", refusals.kept(self.name), "")
+            (refusals.place() / name).write_bytes(left)
+            self.same(f"{title} is not kept", refusals.kept(name), "")
 
     def test_no_folder(self) -> None:
         (self.folder / "cache").write_text("no folder")
@@ -420,19 +374,19 @@ class Trials(Made):
         """The edits that a new trial has to try."""
         return [it.name for it in further.Trial("words", is_anew).left()]
 
-    def test_proved(self) -> None:
+    def test_what_is_kept(self) -> None:
         work = Answering(PROVED)
         trial = self.tried(work)
         self.same("one that is proved fails", (trial.failed(), work.asked), (1, [["Words::count"]]), trial.found)
         self.same("and is tried again", self.left(), ["counts_one_less"])
-
-    def test_refused(self) -> None:
         trial = self.tried(Answering(REFUSED))
         self.same("one that is refused passes", trial.failed(), 0, trial.found)
         again = further.Trial("words")
         found = again.left(), again.failed(), "(kept)" in again.told("no checks")
         self.same("and is not tried again", found, ([], 0, True), again.found)
         self.same("but where all are asked for", self.left(is_anew=True), ["counts_one_less"])
+        (self.top / "crates/words/src/lib.rt").write_text(f"// Not {edits.pairs(trial.files[0].read_text())[0].old}\n{CRATE}")
+        self.same("nor counts what is kept where a comment makes it one that can't be applied", self.left(), ["counts_one_less"])
 
     def test_refused_at_a_limit(self) -> None:
         trial = self.tried(Answering(LIMITED))
@@ -440,25 +394,16 @@ class Trials(Made):
         trial.files[0].write_text(f"# limit: the clause of `Words::count`.\n{trial.files[0].read_text()}")
         self.same("one that tells it", trial.untold(), [], trial.found)
 
-    def test_a_comment_that_has_the_text(self) -> None:
-        trial = self.tried(Answering(REFUSED))
-        source = self.top / "crates/words/src/lib.rt"
-        source.write_text(f"// Not {edits.pairs(trial.files[0].read_text())[0].old}\n{CRATE}")
-        self.same("nor counts what is kept where a comment makes it one that can't be applied", self.left(), ["counts_one_less"])
-
     def test_more_than_bodies(self) -> None:
         wide = edit("both", "pub(crate) const WIDEST: usize = 7;", "pub(crate) const WIDEST: usize = 8;")
         both = wide._replace(places=[*wide.places, ("words", "count")], only=["Words::count"])
-        work = Answering(REFUSED)
-        found = beginnings(further.shown(work, [both], set()))
-        self.same(
-            "one that changes more than bodies is tried on the functions that it changes",
-            (work.asked, found),
-            ([["Words::count"]], {"both": "refused"}),
-        )
-        work = Answering(PROVED)
-        found = further.shown(work, [both], set())
-        self.same("and on all where these are proved", (work.asked, found), ([["Words::count"], []], {"both": "NOT REFUSED"}))
+        for name, answer, asked, wanted in (
+            ("one that changes more than bodies is tried on the functions that it changes", REFUSED, [["Words::count"]], "refused"),
+            ("and on all where these are proved", PROVED, [["Words::count"], []], "NOT REFUSED"),
+        ):
+            work = Answering(answer)
+            found = beginnings(further.shown(work, [both], set()))
+            self.same(name, (work.asked, found), (asked, {"both": wanted}))
 
     def test_texts_that_change_meanwhile(self) -> None:
         specs = self.top / "crates/words/specs/Words.antt"
@@ -515,15 +460,12 @@ class Libraries(Made):
         self.build("other", "made anew")
         self.same("one that is noted anew", self.stale("other"), "")
         self.same("but one above it was built over another", self.stale(), "words is not built from the sources as they are")
+        libraries = proved.Libraries(self.folder / "links")
+        libraries.take(["other"])
         made.unlink()
         self.same("one that is not there", self.stale("other"), "other is not built from the sources as they are")
-
-    def test_links(self) -> None:
-        libraries = proved.Libraries(self.folder / "links")
-        libraries.take(["words"])
-        build.made_by(build.listed()["other"]).unlink()
-        libraries.take(["words"])
-        self.same("what was taken stays as it was", libraries.path("other").joinpath("format").read_text(), "made")
+        libraries.take(["other"])
+        self.same("what was taken stays as it was", libraries.path("other").joinpath("format").read_text(), "made anew")
 
     def test_what_is_put_back(self) -> None:
         crates = build.below(build.listed(), ["other"])
@@ -585,16 +527,11 @@ class Turns(Case):
 class Processes(Case):
     """What is read of the processes of this machine."""
 
-    def test_a_process_that_has_ended(self) -> None:
-        with patch.object(machine, "words_of", lambda _: []):
-            self.same("a process that has ended is no check", machine.provers(), [])
-
-    def test_the_check_of_a_lot(self) -> None:
-        """It runs in a folder that has not the crate's name, so the gate counts it under edits."""
-        folder = Path(self.enterContext(tempfile.TemporaryDirectory(prefix="test-further-")))
-        process, lots = folder / "1", folder / "words-edits"
-        process.mkdir()
-        lots.mkdir()
-        (process / "cmdline").write_bytes(b"rattle\0check\0--crate-name\0words\0src/lib.rt\0")
-        (process / "cwd").symlink_to(lots)
-        self.same("the check of a lot counts as edits", machine.check_of(process), ("words", "edits"))
+    def test_checks(self) -> None:
+        check, own = ["/kit/rattle", "check", "--crate-name", "words", "src/lib.rt"], str(os.getpid())
+        every = {"7": (own, check), "8": ("7", check), "9": ("1", check), "10": ("6", ["/kit/rattle", "build"]), "6": (own, ["rt"])}
+        with patch.object(machine, "processes", lambda: every):
+            self.same("the provers below this process", machine.provers(), [check, ["/kit/rattle", "build"]])
+        for more, what in (("", "proof"), ("--test", "tests"), ("--incremental /tmp/a/words-edits/kept", "edits")):
+            self.same(f"a check of {what}", machine.check_of([*check, *more.split()]), ("words", what))
+        self.same("another program", machine.check_of(["/kit/rattle", "fmt"]), None)

@@ -1,18 +1,18 @@
-"""Tests what promises.py finds wrong and prints, and which changes same_promises.py sees, with a made crate."""
+"""Tests what promises.py finds wrong and prints, with a made crate."""
 
 from __future__ import annotations
 
+import re
 import shutil
 import subprocess
 import sys
 import tempfile
 from pathlib import Path
-from typing import NamedTuple
 
 from tests.lib.case import Case
+from tests.lib.given import given
 from tests.lib.places import TOP
-from tests.tools.contracts import Breaks, breaks
-from tests.tools.same_promises import Items, items_of_source, items_of_specs
+from tests.tools.test_further import write_files
 
 WORD_FILE, EDIT_FILE, PAGE_FILE = "crates/words/src/word.rt", "crates/words/further/always_long.edit", "docs/PROMISES.md"
 CRATE = """//! Words and how long they are (see `Word`).
@@ -77,10 +77,12 @@ is_enough word = 3 < length word
 abbrev pub other : Bool
 """
 
+# The second of these names no clause, and the last a number that nothing reads.
+OF_TRAIT = "# breaks: words/Word as Longer: longer\n# breaks: Longer::longer\n# breaks: Longer::longer: 3"
 EDITS = {
     "always_long": ("    word.len() > most", "    true", "# breaks: is_long: value, whole 1"),
     "never_long": ("    word.len() > most", "    false", "# breaks: is_long: value\n# limit: the clause `value`."),
-    "one_letter": ("        self.count += 1;", "        self.count += 2;", "# breaks: Word as Longer: longer\n# breaks: Longer::longer"),
+    "one_letter": ("        self.count += 1;", "        self.count += 2;", OF_TRAIT),
 }
 
 PAGE = """| Question | Contract |
@@ -94,86 +96,39 @@ PAGE = """| Question | Contract |
 | `words/src/word.rt` |
 """
 
-OF_IS_LONG = """crates/words/src/word.rt:5
-/// Whether a word is long. It reads all of it.
-#[inline]
-pub fn is_long(word: &[u8], most: usize) -> bool
-    // This comment is about no clause.
-    requires { most < 100 }
-    // It is true exactly
-    // of a word that is longer.
-    //
-    // In it, `twice`: the same of the same word.
-    ensures value { result ≡ (length word.now > most) }
-    ensures whole { word.now ≡ word.now }
-    ensures most { most ≡ most }
-
+OF_IS_LONG = (
+    "crates/words/src/word.rt:5\n"
+    + given(re.search(r"/// Whether .*?\n(?=\{)", WORD, re.S))[0]
+    + """
   refused: words/always_long: value, whole
   refused: words/never_long: value; the search ended at a limit: the clause `value`.
 """
+)
 
 OF_IS_ENOUGH = "crates/words/specs/Words.antt:3\n" + SPEC.partition("\n\n")[0] + "\n\n"
 
-
-SOURCE = """ghost use Rattle.a.specs.Words.{long};
-
-/// A word.
-#[derive(Clone)]
-pub struct Word {
-    pub len: usize,
-}
-
-impl Word {
-    // Whether it is long.
-    pub fn is_long(&self) -> bool
-        ensures value { result ≡ long self.now }
-    {
-        self.len > LIMIT
-    }
-
-    fn limit(&self) -> usize {
-        LIMIT
-    }
-}
-"""
-SPECS = "use Rattle.a.specs.Limits.{limit}\n\n-- long words\nabbrev pub long : Word → Bool\nlong w = limit < w.len\n"
-
 NO_OTHER = "    // The types allow no other body, so no\n    // wrong body is tried.\n    ensures most"
 
-
-class Said(NamedTuple):
-    """What promises.py ended with, and what it printed."""
-
-    status: int
-    text: str
-
-
-def make_repository(room: Path) -> None:
-    """Makes a repository of one crate."""
-    for part in ("lib", "tools"):
-        shutil.copytree(TOP / "tests" / part, room / "tests" / part, ignore=shutil.ignore_patterns("__pycache__"))
-    files = {PAGE_FILE: PAGE, "crates.txt": "words:\n", WORD_FILE: WORD, "crates/words/src/lib.rt": CRATE, "crates/words/specs/Words.antt": SPEC}
-    for name, (old, new, said) in EDITS.items():
-        changes = f"file: src/word.rt\nold: {old}\nnew: "
-        files[f"crates/words/further/{name}.edit"] = f"{changes}{new}\n{said}\n"
-        files[f"crates/words/further/{name}.control.md"] = f"{changes}{old} // right\n"
-    for path, text in files.items():
-        file = room / path
-        file.parent.mkdir(parents=True, exist_ok=True)
-        file.write_text(text)
+FILES = {PAGE_FILE: PAGE, "crates.txt": "words:\n", WORD_FILE: WORD, "crates/words/src/lib.rt": CRATE, "crates/words/specs/Words.antt": SPEC}
 
 
 class Promises(Case):
-    """The promises.py of a made repository."""
+    """The promises.py of a made repository of one crate."""
 
     def setUp(self) -> None:
         self.room = Path(self.enterContext(tempfile.TemporaryDirectory(prefix="promises-")))
-        make_repository(self.room)
+        for part in ("lib", "tools"):
+            shutil.copytree(TOP / "tests" / part, self.room / "tests" / part, ignore=shutil.ignore_patterns("__pycache__"))
+        write_files(self.room, FILES)
+        for name, (old, new, said) in EDITS.items():
+            edit, changes = f"crates/words/further/{name}", f"file: src/word.rt\nold: {old}\nnew: "
+            write_files(self.room, {f"{edit}.edit": f"{changes}{new}\n{said}\n", f"{edit}.control.md": f"{changes}{old} // right\n"})
 
-    def ran(self, *words: str) -> Said:
+    def ran(self, *words: str) -> tuple[int, str]:
+        """What promises.py ends with, and what it prints."""
         command = (sys.executable, "-m", "tests.tools.promises", *words)
         it = subprocess.run(command, cwd=self.room, stdin=subprocess.DEVNULL, capture_output=True, text=True, check=False)
-        return Said(it.returncode, it.stdout + it.stderr)
+        return it.returncode, it.stdout + it.stderr
 
     def with_change(self, file: str, old: str, new: str) -> str:
         """What promises.py says with a text of a file replaced, which is put back."""
@@ -181,25 +136,23 @@ class Promises(Case):
         text = path.read_text()
         self.assertIn(old, text)
         path.write_text(text.replace(old, new, 1))
-        said = self.ran().text
+        _, said = self.ran()
         path.write_text(text)
         return said
 
     def test_right(self) -> None:
-        wanted = Said(0, "promises: 3 contracts and 3 edits fit each other, and docs/PROMISES.md names what is there\n")
-        self.same("all fits", self.ran(), wanted)
+        wanted = "promises: 3 contracts and 3 edits fit each other, and docs/PROMISES.md names what is there\n"
+        self.same("all fits", self.ran(), (0, wanted))
 
     def test_of(self) -> None:
         """What `--of` prints."""
-        for name in ("is_long", "words/is_long"):
-            self.same(name, self.ran("--of", name), Said(0, OF_IS_LONG))
-        said = self.ran("--of", "longer")
-        self.same("a trait's call by its last part", (said.status, said.text.count("refused: words/one_letter: the contract\n")), (0, 1), said)
-        said = self.ran("--of", "Word as Longer")
-        self.same("a type's block", (said.status, "The letter is any.\n" in said.text), (0, True), said)
-        self.same("a definition", self.ran("--of", "is_enough"), Said(0, OF_IS_ENOUGH))
+        for name, text in (("is_long", OF_IS_LONG), ("words/is_long", OF_IS_LONG), ("is_enough", OF_IS_ENOUGH)):
+            self.same(name, self.ran("--of", name), (0, text))
+        for name, line, count in (("longer", "  refused: words/one_letter: the contract\n", 2), ("Word as Longer", "The letter is any.\n", 1)):
+            status, said = self.ran("--of", name)
+            self.same(name, (status, said.count(line)), (0, count), said)
         for name in ("print", "is_longer", "other/is_long"):
-            self.same(name, self.ran("--of", name), Said(1, f"nothing in the crates has a contract and is named {name}\n"))
+            self.same(name, self.ran("--of", name), (1, f"nothing in the crates has a contract and is named {name}\n"))
 
     def test_faults(self) -> None:
         """Changes after which promises.py has to say what is wrong."""
@@ -225,54 +178,7 @@ class Promises(Case):
     def test_a_call_without_an_edit(self) -> None:
         for name in ("always_long", "never_long"):
             (self.room / "crates" / "words" / "further" / f"{name}.edit").unlink()
-        said = self.ran().text
+        _, said = self.ran()
         self.holds("a call without an edit", "is_long of words has no edit" in said, said)
         marked = self.with_change(WORD_FILE, "    ensures most", NO_OTHER)
         self.holds("a call of whose type no other body is", "is_long of words has no edit" not in marked, marked)
-
-
-class Lines(Case):
-    """What single lines say."""
-
-    def test_breaks(self) -> None:
-        for name, line, wanted in (
-            ("a call", "Reel::read", Breaks("a", "Reel::read", ())),
-            ("a clause", "Reel::read: call", Breaks("a", "Reel::read", ("call",))),
-            ("clauses and a number", "List as Reel: op, step 2", Breaks("a", "List as Reel", ("op", "step"))),
-            ("a number alone", "serve: 3", Breaks("a", "serve", ())),
-            ("another crate", "b/serve: made", Breaks("b", "serve", ("made",))),
-        ):
-            self.same(name, breaks("a", line), wanted)
-
-
-def changed(before: Items, now: Items) -> list[str]:
-    """The names of what is new, gone or changed."""
-    return sorted(it for it in before.keys() | now.keys() if before.get(it) != now.get(it))
-
-
-class Changes(Case):
-    """Which changes of a file are changes of what it promises."""
-
-    def test_sources(self) -> None:
-        for title, old, new, counts in (
-            ("a clause", "long self.now }", "long self.now || b }", 1),
-            ("the name of a clause", "ensures value", "ensures same", 1),
-            ("the head of a function", "-> bool", "-> u8", 1),
-            ("a private function", "-> usize {", "-> u32 {", 1),
-            ("a field", "pub len: usize", "pub len: u8", 1),
-            ("what a type derives", "derive(Clone)", "derive(Clone, Copy)", 1),
-            ("where a name comes from", "specs.Words", "specs.Others", 1),
-            ("a body", "self.len > LIMIT", "self.len >= LIMIT", 0),
-            ("a comment", "// Whether it is long.", "// Whether this word is long.", 0),
-        ):
-            found = changed(items_of_source(SOURCE), items_of_source(SOURCE.replace(old, new, 1)))
-            self.same(f"changed: {title}", len(found), counts, found)
-
-    def test_specs(self) -> None:
-        for title, old, new, counts in (
-            ("a definition", "limit < w.len", "w.len < limit", 1),
-            ("where its name comes from", "specs.Limits", "specs.Others", 1),
-            ("its comment", "-- long words", "-- words that are long", 0),
-        ):
-            found = changed(items_of_specs(SPECS), items_of_specs(SPECS.replace(old, new, 1)))
-            self.same(f"changed: {title}", len(found), counts, found)

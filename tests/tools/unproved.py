@@ -60,7 +60,7 @@ def compile_to(name: str, folder: Path, to: Path) -> str | None:
                 shutil.copy(program, to)
                 process.terminate()
                 return None
-            time.sleep(0.1)
+            time.sleep(0.5)
     return said.read_text(errors="replace")
 
 

@@ -17,7 +17,6 @@ pub enum Kind {
 }
 
 impl Kind {
-    /// Returns the kind of this name, if there is one.
     pub fn named(name: &str) -> Option<Kind> {
         match name {
             "requests" => Some(Kind::Requests),
@@ -56,8 +55,7 @@ fn gives_request(reader: &mut RequestReader, text: &[u8], piece: usize) -> bool
     is_given
 }
 
-/// Whether the reader returns the one reply of this text, and only after its last piece. `piece` is
-/// in bytes.
+/// Like `gives_request`, for a reply.
 fn gives_reply(reader: &mut ReplyReader, text: &[u8], piece: usize) -> bool
     requires { 0 < piece }
 {

@@ -47,7 +47,6 @@ fn arguments_of(rt: &HostRuntime) -> io::Result<Option<Arguments>> {
     }
 }
 
-/// Feeds a reader as the arguments say. With wrong arguments it exits with status 1.
 fn main(rt: HostRuntime) -> io::Result<ExitCode> {
     let Some(Arguments { kind, count, piece }) = arguments_of(&rt)? else {
         return Ok(ExitCode::from(WRONG));

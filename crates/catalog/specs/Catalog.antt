@@ -1,6 +1,5 @@
 -- The text of a catalog. Public contracts cite it.
-use Rattle.std.specs.Prelude.{◌≡◌, ◌≢◌, ℕ, ◌+◌, Bool, true, ◌&&◌, nat_le, List, [], ◌++◌, All, length, flat_map}
-use Rattle.std.specs.List.{list_all}
+use Rattle.std.specs.Prelude.{◌≡◌, ◌≢◌, ℕ, ◌+◌, List, [], ◌++◌, All, length, flat_map}
 use Rattle.catalog.specs.Line.{IsLine, line_text}
 use Rattle.catalog.specs.declared.fault.CatalogFault.{CatalogFault}
 use Rattle.catalog.specs.declared.fault.CatalogFault.TheVariants.{BadLine, OutOfMemory}
@@ -29,12 +28,3 @@ pub record HasBadLine (bytes : List ℕ) (n : ℕ) : Type 0 where
 abbrev pub HasCatalogFault : List ℕ → CatalogFault → Type 0
 HasCatalogFault bytes (BadLine n) = HasBadLine bytes n
 HasCatalogFault bytes OutOfMemory = Unit {0}
-
--- whether a byte can be in a line, before its line feed: a space, or printable ASCII
-abbrev pub is_line_byte : ℕ → Bool
-is_line_byte b = nat_le 32 b && nat_le b 126
-
--- The bytes are the text of some good lines, and then a rest of spaces and printable ASCII.
-abbrev pub IsLeftCatalog : List ℕ → Type 0
-IsLeftCatalog bytes =
-    (lines : List CatalogLine) × (rest : List ℕ) × All IsLine lines × (bytes ≡ catalog_text lines ++ rest) × (list_all is_line_byte rest ≡ true)

@@ -42,7 +42,7 @@ pub record IsFinished (f : PlainFinished) : Type 0 where
   pub block_bytes : IsBlockSize f.block_bytes
   pub bytes : f.bytes < 2 ^ 64
 
--- the name, the level and the dates of a dump, as a text
+-- the name, the level and the dates of a dump, as `/usr level 0 date 7 since 5`
 abbrev pub id_text : PlainId → List ℕ
 id_text d = d.name ++ numbered (codes " level ") d.level (numbered (codes " date ") d.date (codes " since " ++ decimal d.since))
 

@@ -26,7 +26,6 @@ impl Model for BegunLine {
 impl BegunLine {
     /// Makes the line of a dump that begins, with a payload of so many bytes.
     pub fn new(id: DumpId, bytes: u64) -> BegunLine
-        // The line has the given values.
         ensures { result ≡ plain_begun id bytes }
     {
         BegunLine { id, bytes }
@@ -34,7 +33,7 @@ impl BegunLine {
 
     /// Returns the dump.
     pub fn id(&self) -> &DumpId
-        // Returns the dump in the line. The types allow no other body, so no wrong body is tried.
+        // The types allow no other body, so no wrong body is tried.
         ensures { result.now ≡ self.now.id }
     {
         &self.id
@@ -42,7 +41,6 @@ impl BegunLine {
 
     /// Returns the length of the payload in bytes.
     pub fn bytes(&self) -> u64
-        // Returns the length in the line.
         ensures { result ≡ self.now.bytes }
     {
         self.bytes

@@ -15,8 +15,6 @@ pub enum CatalogFault {
 }
 
 impl From<AllocError> for CatalogFault {
-    // Turns a failed allocation into `OutOfMemory`.
-
     ghost use Rattle.std.specs.Prelude.{◌≡◌};
     ghost use Rattle.catalog.specs.declared.fault.CatalogFault.TheVariants.{OutOfMemory};
 

@@ -1,5 +1,5 @@
-//! Cuts a line into its fields. The caller prints the line that it gets and compares the texts, so
-//! the functions promise nothing for a text that is not a line.
+//! Cuts a line into its fields. As in `read_line`, nothing is promised for a text that is not a
+//! line.
 ghost use Rattle.std.specs.Prelude.{◌≡◌, ◌<◌, ◌⊎◌, ℕ, List, Some};
 ghost use Rattle.hex.specs.Hex.{encode_lower};
 ghost use Rattle.dump_run.specs.CheckpointParts.{IsCut};
@@ -25,7 +25,6 @@ pub(crate) struct Fields<'a> {
     block_bytes: u64,
 }
 
-/// Returns the fields of the line at the beginning of `bytes`.
 pub(crate) fn cut_fields(bytes: &[u8]) -> Fields<'_>
     ensures { FindsFields bytes.now result }
 {
@@ -52,7 +51,6 @@ pub(crate) fn cut_fields(bytes: &[u8]) -> Fields<'_>
 }
 
 impl Fields<'_> {
-    /// Returns the line of these fields, or None if they are those of no line.
     pub(crate) fn line(&self) -> Option<SumLine>
         ensures { MakesLine self.now result }
     {
@@ -63,7 +61,6 @@ impl Fields<'_> {
         SumLine::new(sum, label, blocks, block_bytes)
     }
 
-    /// Returns the label of these fields, or None if they are those of no label.
     fn label(&self) -> Option<VolumeLabel>
         ensures { MakesLabel self.now result }
     {
@@ -77,7 +74,6 @@ impl Fields<'_> {
     }
 }
 
-/// Returns the sum that these hexadecimal digits spell, or None if they spell no sum.
 fn sum_of(digits: &[u8]) -> Option<[u8; 32]>
     ensures { (sum : List ℕ) → IsSum sum → digits.now ≡ encode_lower sum → result ≡ Some sum }
 {
@@ -98,8 +94,6 @@ pub(crate) fn cut<'a>(bytes: &'a [u8], word: &[u8], end: u8) -> (&'a [u8], &'a [
     parts
 }
 
-/// Splits `text` at the first `byte`: returns the text before it and the text after it. Returns
-/// None if there is no such byte.
 fn split_at_byte(text: &[u8], byte: u8) -> Option<(&[u8], &[u8])>
     ensures { IsCut byte text.now result }
 {
@@ -111,7 +105,6 @@ fn split_at_byte(text: &[u8], byte: u8) -> Option<(&[u8], &[u8])>
     None
 }
 
-/// Returns the number after `word` up to the first `end`, and the bytes after that `end`.
 pub(crate) fn cut_number<'a>(bytes: &'a [u8], word: &[u8], end: u8) -> (u64, &'a [u8])
     requires { (end < 48) ⊎ (57 < end) }
     ensures { CutsNumber bytes.now word.now end result }

@@ -9,8 +9,8 @@ use dump_run::{BLOCKS_LIMIT, DumpId};
 use rmt_wire::RECORD_LIMIT;
 use std::marker::Model;
 
-/// A finished dump: the number of its volumes and blocks, the size of a block, and the length of its
-/// payload. It allocates nothing.
+/// A finished dump: the number of its volumes and blocks, the size of a block, and the length of
+/// its payload. It allocates nothing.
 #[derive(Drop)]
 pub struct FinishedLine {
     id: DumpId,
@@ -43,10 +43,7 @@ impl FinishedLine {
         block_bytes: u32,
         bytes: u64,
     ) -> Option<FinishedLine>
-        // If the call returns a line, the line has the given values.
         ensures made { IfSome result (λ f. f ≡ plain_finished id volumes blocks block_bytes bytes) }
-        // The call returns a line if and only if the numbers of volumes and blocks and the size of
-        // a block are within their limits.
         ensures limits { IsSome result ↔ IsFinished (plain_finished id volumes blocks block_bytes bytes) }
     {
         if volumes == 0 || volumes > BLOCKS_LIMIT || blocks > BLOCKS_LIMIT {
@@ -66,7 +63,7 @@ impl FinishedLine {
 
     /// Returns the dump.
     pub fn id(&self) -> &DumpId
-        // Returns the dump in the line. The types allow no other body, so no wrong body is tried.
+        // The types allow no other body, so no wrong body is tried.
         ensures { result.now ≡ self.now.id }
     {
         &self.id
@@ -74,7 +71,6 @@ impl FinishedLine {
 
     /// Returns the number of volumes: 1 to `BLOCKS_LIMIT`.
     pub fn volumes(&self) -> u32
-        // Returns the number of volumes in the line: 1 to 2147483647.
         ensures told { result ≡ self.now.volumes }
         ensures limits { IsInRange 1 blocks_limit self.now.volumes }
     {
@@ -83,7 +79,6 @@ impl FinishedLine {
 
     /// Returns the number of blocks: at most `BLOCKS_LIMIT`.
     pub fn blocks(&self) -> u32
-        // Returns the number of blocks in the line, at most 2147483647.
         ensures told { result ≡ self.now.blocks }
         ensures limit { self.now.blocks ≤ blocks_limit }
     {
@@ -92,7 +87,6 @@ impl FinishedLine {
 
     /// Returns the size of a block in bytes: 1 to `RECORD_LIMIT`.
     pub fn block_bytes(&self) -> u32
-        // Returns the size of a block in the line: 1 to `RECORD_LIMIT`.
         ensures told { result ≡ self.now.block_bytes }
         ensures limits { IsBlockSize self.now.block_bytes }
     {
@@ -101,7 +95,6 @@ impl FinishedLine {
 
     /// Returns the length of the payload in bytes.
     pub fn bytes(&self) -> u64
-        // Returns the length in the line.
         ensures { result ≡ self.now.bytes }
     {
         self.bytes
@@ -109,7 +102,6 @@ impl FinishedLine {
 
     /// Returns whether two lines have the same values.
     pub fn is_same(&self, other: &FinishedLine) -> bool
-        // Returns true if and only if all values are the same.
         ensures { IsTrue result ↔ (self.now ≡ other.now) }
     {
         self.id.is_same(&other.id)

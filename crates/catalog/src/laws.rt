@@ -1,4 +1,4 @@
-//! Laws of the text of a catalog. Each is a clause of a function that does nothing.
+//! Laws of the text of a catalog.
 
 ghost use Rattle.std.specs.Prelude.{◌≡◌, ℕ, List, All};
 ghost use Rattle.catalog.specs.Catalog.{SpellsCatalog, HasBadLine, catalog_text};
@@ -10,8 +10,6 @@ ghost use Rattle.catalog.specs.declared.line.CatalogLine.{CatalogLine};
 ///
 /// The function does nothing: its contract is a law of the definitions.
 pub fn one_catalog()
-    // Two different lists of good lines have different texts.
     ensures one { (bytes : List ℕ) (a b : List CatalogLine) → SpellsCatalog bytes a → SpellsCatalog bytes b → a ≡ b }
-    // The text of a list of good lines contains no bad line.
     ensures good { (lines : List CatalogLine) (n : ℕ) → All IsLine lines → HasBadLine (catalog_text lines) n → ⊥ }
 {}

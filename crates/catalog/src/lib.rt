@@ -1,10 +1,11 @@
 //! The lines of a catalog: which dumps began, the SHA-256 of each counted volume's record file, and
 //! which dumps are finished.
 //!
-//! `CatalogLine` is one line, and `push_line` appends its text. `push_volume` appends the part of it
-//! that describes a volume. `Catalog` has the lines of a file: `Catalog::read` reads them,
-//! `Catalog::run` returns those of a dump, and `Catalog::compare` compares a sum with them.
-//! `is_left_catalog` recognizes what an interrupted run leaves of such a file.
+//! `CatalogLine` is one line, and `push_line` appends its text. `Catalog` has the lines of a file:
+//! `Catalog::read` reads them, `Catalog::run` returns the lines after the last one with which a
+//! dump began, those of other dumps included, and `Catalog::compare` compares a volume's sum with
+//! the lines of its dump. To find them, both look only at lines with the dump's key: a catalog
+//! keeps where its lines are, sorted by keys of their dumps.
 //!
 //! # Contracts
 //!
@@ -15,8 +16,8 @@
 //!
 //! The lines of a dump are those with its name, its level and both of its dates. A dump that is
 //! *begun anew* has one more line that says that it began. The line of a volume is *in force* if it
-//! follows the last line with which its dump began, and no line that follows it is that of the same
-//! volume of the dump, or of an earlier one.
+//! follows the last line with which its dump began, and no later line is that of the same volume of
+//! the dump, or of an earlier one.
 #![tactic(auto)]
 
 mod begun;
@@ -24,10 +25,11 @@ mod catalog;
 mod fault;
 mod fields;
 mod finished;
+mod last_line;
 mod laws;
-mod left;
 mod line;
 mod number;
+mod place;
 mod read_line;
 mod run;
 mod sum_line;
@@ -39,7 +41,6 @@ pub use catalog::Catalog;
 pub use fault::CatalogFault;
 pub use finished::FinishedLine;
 pub use laws::one_catalog;
-pub use left::is_left_catalog;
 pub use line::CatalogLine;
 pub use run::CatalogRun;
 pub use sum_line::SumLine;

@@ -22,8 +22,7 @@ pub enum CatalogLine {
 impl CatalogLine {
     /// Returns the dump of the line.
     pub fn id(&self) -> &DumpId
-        // Returns the name, the level and the dates of the line's dump. The types allow no other
-        // body, so no wrong body is tried.
+        // The types allow no other body, so no wrong body is tried.
         ensures { result.now ≡ line_id self.now }
     {
         match self {
@@ -33,7 +32,6 @@ impl CatalogLine {
         }
     }
 
-    /// Whether the dump began with this line.
     pub(crate) fn begins(&self, id: &DumpId) -> bool
         ensures { IsTrue result ↔ Begins id.now self.now }
     {
@@ -43,19 +41,17 @@ impl CatalogLine {
         }
     }
 
-    /// Whether this is the line of a volume of the dump, with this number or an earlier one.
     pub(crate) fn is_up_to(&self, id: &DumpId, number: u32) -> bool
         ensures { IsTrue result ↔ IsUpTo id.now number self.now }
     {
         match self {
             CatalogLine::Volume(volume) => {
-                volume.label().id().is_same(id) && volume.label().volume() <= number
+                volume.label().volume() <= number && volume.label().id().is_same(id)
             }
             CatalogLine::Begun(_) | CatalogLine::Finished(_) => false,
         }
     }
 
-    /// Whether this is the line of a volume of the dump, or says that the dump is finished.
     pub(crate) fn is_past_begun(&self, id: &DumpId) -> bool
         ensures { IsTrue result ↔ IsPastBegun id.now self.now }
     {
@@ -66,7 +62,6 @@ impl CatalogLine {
         }
     }
 
-    /// Whether this is the line of a volume with this label and this sum.
     pub(crate) fn has(&self, label: &VolumeLabel, sum: &[u8; 32]) -> bool
         ensures { IsTrue result ↔ IsSumOf label.now sum.now self.now }
     {

@@ -1,8 +1,7 @@
 //! Reads the number in a text.
 ghost use Rattle.std.specs.Prelude.{◌≡◌, ◌^◌, ◌<◌, ℕ, decimal, Some};
 
-/// Parses a text as a number. It also accepts other forms than `push_sum_line` writes, such as
-/// leading zeros.
+/// It also accepts other forms than `push_line` writes, such as leading zeros.
 fn parsed(text: &[u8]) -> Option<u64>
     ensures { (n : ℕ) → n < 2 ^ 64 → text.now ≡ decimal n → result ≡ Some n }
 {

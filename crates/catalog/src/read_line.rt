@@ -15,7 +15,6 @@ const BEGUN: &[u8] = b"begun     ";
 /// The first word of a finished dump.
 const FINISHED: &[u8] = b"finished  ";
 
-/// Returns the line at the beginning of `bytes`, if there is one.
 pub(crate) fn read_line(bytes: &[u8]) -> Option<CatalogLine>
     ensures { ReadsLine bytes.now result }
 {
@@ -28,14 +27,12 @@ pub(crate) fn read_line(bytes: &[u8]) -> Option<CatalogLine>
     Some(CatalogLine::Volume(read_volume(bytes)?))
 }
 
-/// Returns the line of a volume at the beginning of `bytes`, if there is one.
 fn read_volume(bytes: &[u8]) -> Option<SumLine>
     ensures { ReadsVolume bytes.now result }
 {
     cut_fields(bytes).line()
 }
 
-/// Returns the line of a dump that begins at the beginning of `bytes`, if there is one.
 fn read_begun(bytes: &[u8]) -> Option<BegunLine>
     ensures { ReadsBegun bytes.now result }
 {
@@ -44,7 +41,6 @@ fn read_begun(bytes: &[u8]) -> Option<BegunLine>
     Some(BegunLine::new(id, bytes))
 }
 
-/// Returns the line of a finished dump at the beginning of `bytes`, if there is one.
 fn read_finished(bytes: &[u8]) -> Option<FinishedLine>
     ensures { ReadsFinished bytes.now result }
 {
@@ -56,7 +52,6 @@ fn read_finished(bytes: &[u8]) -> Option<FinishedLine>
     finished_of(id, volumes, blocks, block_bytes, bytes)
 }
 
-/// Returns the line of a finished dump with these values, or None if they are those of no line.
 fn finished_of(
     id: DumpId,
     volumes: u64,
@@ -73,8 +68,6 @@ fn finished_of(
     FinishedLine::new(id, volumes, blocks, block_bytes, bytes)
 }
 
-/// Returns the dump whose text is between `word` and the first `end`, and the bytes after that
-/// `end`. Returns None if the text has no such dump.
 fn cut_id<'a>(bytes: &'a [u8], word: &[u8], end: u8) -> Option<(DumpId, &'a [u8])>
     requires { (end < 48) ⊎ (57 < end) }
     ensures { CutsId bytes.now word.now end result }
@@ -87,7 +80,6 @@ fn cut_id<'a>(bytes: &'a [u8], word: &[u8], end: u8) -> Option<(DumpId, &'a [u8]
     Some((id, rest))
 }
 
-/// Returns the dump with these values, or None if they are those of no dump.
 fn id_of(name: &[u8], level: u64, date: u64, since: u64) -> Option<DumpId>
     ensures { (d : PlainId) → IsDumpId d → name.now ≡ d.name → level ≡ d.level → date ≡ d.date → since ≡ d.since → result ≡ Some d }
 {
@@ -98,7 +90,6 @@ fn id_of(name: &[u8], level: u64, date: u64, since: u64) -> Option<DumpId>
     DumpId::new(name, level, date, since)
 }
 
-/// Whether the bytes begin with this word.
 fn begins_with(bytes: &[u8], word: &[u8]) -> bool
     ensures { IsTrue result ↔ ((rest : List ℕ) × (bytes.now ≡ word.now ++ rest)) }
 {

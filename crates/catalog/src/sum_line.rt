@@ -37,13 +37,10 @@ impl Model for SumLine {
 impl SumLine {
     /// Makes a line with the given values. Returns None if a number breaks its limit.
     ///
-    /// There are at most `BLOCKS_LIMIT` blocks. If there are blocks, each has 1 to `RECORD_LIMIT`
-    /// bytes. If there are none, their size is 0.
+    /// There are at most `BLOCKS_LIMIT` blocks, each of 1 to `RECORD_LIMIT` bytes. If there are
+    /// none, their size is 0.
     pub fn new(sum: [u8; 32], label: VolumeLabel, blocks: u32, block_bytes: u32) -> Option<SumLine>
-        // If the call returns a line, the line has the given values.
         ensures made { IfSome result (λ l. l ≡ plain_sum_line sum label blocks block_bytes) }
-        // The call returns a line if and only if the number and the size of the blocks are within
-        // their limits.
         ensures limits { IsSome result ↔ IsSumLine (plain_sum_line sum label blocks block_bytes) }
     {
         if blocks > BLOCKS_LIMIT || !is_size_of(blocks, block_bytes) {
@@ -59,7 +56,6 @@ impl SumLine {
 
     /// Returns the SHA-256 of the volume's record file.
     pub fn sum(&self) -> &[u8; 32]
-        // Returns the sum in the line.
         ensures { result.now ≡ self.now.sum }
     {
         &self.sum
@@ -67,7 +63,7 @@ impl SumLine {
 
     /// Returns the label of the volume.
     pub fn label(&self) -> &VolumeLabel
-        // Returns the label in the line. The types allow no other body, so no wrong body is tried.
+        // The types allow no other body, so no wrong body is tried.
         ensures { result.now ≡ self.now.label }
     {
         &self.label
@@ -75,7 +71,6 @@ impl SumLine {
 
     /// Returns the number of blocks of the volume, at most `BLOCKS_LIMIT`.
     pub fn blocks(&self) -> u32
-        // Returns the number of blocks in the line, at most 2147483647.
         ensures told { result ≡ self.now.blocks }
         ensures limit { self.now.blocks ≤ blocks_limit }
     {
@@ -84,8 +79,6 @@ impl SumLine {
 
     /// Returns the size of a block in bytes: 1 to `RECORD_LIMIT`, or 0 if there are no blocks.
     pub fn block_bytes(&self) -> u32
-        // Returns the size of a block in the line: 1 to `RECORD_LIMIT`, or 0 if there are no
-        // blocks.
         ensures told { result ≡ self.now.block_bytes }
         ensures limits { IsSizeOf self.now.blocks self.now.block_bytes }
     {
@@ -94,14 +87,11 @@ impl SumLine {
 
     /// Returns the size of the volume's record file in bytes.
     pub fn bytes(&self) -> u64
-        // Returns the size of the volume's record file in bytes, computed from the number and the
-        // size of the blocks.
         ensures { result ≡ file_bytes self.now.blocks self.now.block_bytes }
     {
         FRAME_BYTES + u64::from(self.blocks) * (u64::from(self.block_bytes) + LENGTHS)
     }
 
-    /// Whether the line has this label.
     pub(crate) fn is_of(&self, label: &VolumeLabel) -> bool
         ensures { IsTrue result ↔ (self.now.label ≡ label.now) }
     {
@@ -109,14 +99,12 @@ impl SumLine {
         own.is_same_dump(label) && own.volume() == label.volume() && own.first() == label.first()
     }
 
-    /// Whether the line has this label and this sum.
     pub(crate) fn has(&self, label: &VolumeLabel, sum: &[u8; 32]) -> bool
         ensures { IsTrue result ↔ ((self.now.label ≡ label.now) × (self.now.sum ≡ sum.now)) }
     {
         self.is_of(label) && self.sum == *sum
     }
 
-    /// Whether both lines have the same sum, label and numbers.
     pub(crate) fn is_same(&self, other: &SumLine) -> bool
         ensures { IsTrue result ↔ (self.now ≡ other.now) }
     {
@@ -126,7 +114,6 @@ impl SumLine {
     }
 }
 
-/// Whether the size of a block can be `block_bytes` in a volume of this number of blocks.
 fn is_size_of(blocks: u32, block_bytes: u32) -> bool
     ensures { IsTrue result ↔ IsSizeOf blocks block_bytes }
 {

@@ -15,18 +15,17 @@ use std::alloc::AllocError;
 /// The length of a sum in hexadecimal digits.
 pub(crate) const SUM_DIGITS: usize = 64;
 
-/// Appends the text that describes a volume in a list of reels: the fields of the label, and the
-/// number and the size of the blocks.
+/// Appends the text of a volume as its line in a catalog has it, dates in seconds only: the fields
+/// of the label, and the number and the size of the blocks, as
+/// `/usr level 0 date 7 since 5 volume 1 first 0, 3 blocks of 64 bytes`.
 ///
-/// Fails if an allocation fails. Part of the text may have been appended then.
+/// If an allocation fails, part of the text may have been appended.
 pub fn push_volume(
     text: &mut Vec<u8>,
     label: &VolumeLabel,
     blocks: u64,
     block_bytes: u64,
 ) -> Result<(), AllocError>
-    // Appends the name, the level, both dates, the volume's number, its first block, the number of
-    // blocks and the size of a block. If the call fails, no clause says what `text` contains.
     ensures { OnOk result (text.new.items ≡ text.old.items ++ volume_text label.now blocks block_bytes) }
 {
     text.extend_from_slice(label.name().as_bytes())?;
@@ -49,9 +48,8 @@ pub fn push_volume(
 /// - A finished dump: `finished`, the dump, the number of volumes, the number and the size of the
 ///   blocks, and the length of its payload.
 ///
-/// Fails if an allocation fails. Part of the text may have been appended then.
+/// If an allocation fails, part of the text may have been appended.
 pub fn push_line(text: &mut Vec<u8>, line: &CatalogLine) -> Result<(), AllocError>
-    // Appends the text of the line. If the call fails, no clause says what `text` contains.
     ensures { OnOk result (text.new.items ≡ text.old.items ++ line_text line.now) }
 {
     match line {
@@ -61,7 +59,6 @@ pub fn push_line(text: &mut Vec<u8>, line: &CatalogLine) -> Result<(), AllocErro
     }
 }
 
-/// Appends the text of a dump that begins.
 fn push_begun(text: &mut Vec<u8>, begun: &BegunLine) -> Result<(), AllocError>
     ensures { OnOk result (text.new.items ≡ text.old.items ++ begun_text begun.now) }
 {
@@ -71,7 +68,6 @@ fn push_begun(text: &mut Vec<u8>, begun: &BegunLine) -> Result<(), AllocError>
     text.extend_from_slice(b" bytes\n")
 }
 
-/// Appends the text of a finished dump.
 fn push_finished(text: &mut Vec<u8>, finished: &FinishedLine) -> Result<(), AllocError>
     ensures { OnOk result (text.new.items ≡ text.old.items ++ finished_text finished.now) }
 {
@@ -85,7 +81,6 @@ fn push_finished(text: &mut Vec<u8>, finished: &FinishedLine) -> Result<(), Allo
     Ok(())
 }
 
-/// Appends the name, the level and the dates of a dump.
 fn push_id(text: &mut Vec<u8>, id: &DumpId) -> Result<(), AllocError>
     ensures { OnOk result (text.new.items ≡ text.old.items ++ id_text id.now) }
 {
@@ -95,7 +90,6 @@ fn push_id(text: &mut Vec<u8>, id: &DumpId) -> Result<(), AllocError>
     push_number(text, b" since ", id.since())
 }
 
-/// Appends the text of a counted volume.
 fn push_volume_line(text: &mut Vec<u8>, line: &SumLine) -> Result<(), AllocError>
     ensures { OnOk result (text.new.items ≡ text.old.items ++ sum_line line.now) }
 {
@@ -112,7 +106,6 @@ fn push_volume_line(text: &mut Vec<u8>, line: &SumLine) -> Result<(), AllocError
     Ok(())
 }
 
-/// Appends a word and a number.
 fn push_number(text: &mut Vec<u8>, word: &[u8], number: u64) -> Result<(), AllocError>
     ensures { OnOk result (text.new.items ≡ text.old.items ++ (word.now ++ decimal number)) }
 {
@@ -121,7 +114,6 @@ fn push_number(text: &mut Vec<u8>, word: &[u8], number: u64) -> Result<(), Alloc
     text.extend_from_slice(digits.format(number).as_bytes())
 }
 
-/// Appends a sum in lower hexadecimal digits.
 fn push_hex(text: &mut Vec<u8>, sum: &[u8; 32]) -> Result<(), AllocError>
     ensures { OnOk result (text.new.items ≡ text.old.items ++ encode_lower sum.now) }
 {

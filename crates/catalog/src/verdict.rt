@@ -3,9 +3,7 @@
 ghost use Rattle.std.specs.Prelude.{◌≡◌};
 ghost use Rattle.catalog.specs.Verdict.{verdict_words};
 
-/// Whether a catalog has the sum of a volume. A line is in force if it follows the last one with
-/// which its dump began, and no line that follows it is that of the same volume of the dump, or of
-/// an earlier one.
+/// Whether a catalog has the sum of a volume.
 #[derive(Clone, Copy, Debug, PartialEq, Eq)]
 pub enum SumVerdict {
     /// A line that is in force has the volume's label and its sum.
@@ -24,9 +22,6 @@ pub enum SumVerdict {
 impl SumVerdict {
     /// Returns the verdict in words.
     pub fn words(self) -> &'static str
-        // Returns `sum equal` for `Equal`, `sum differs` for `Differs`, `of a dump that was begun
-        // anew` for `Anew`, `of a volume that was written again` for `Void`, and `no sum known` for
-        // `Unknown`.
         ensures { result.now ≡ verdict_words self }
     {
         match self {

@@ -1,13 +1,11 @@
-//! The errors of opening or adding a drive, and of moving or adding a reel.
-//!
-//! A drive's latched reel is the first of its stack: it is in the drive until it is laid back or
-//! moved to the bin.
+//! The errors of drives and reels.
 
 use std::alloc::AllocError;
 use thiserror::Error;
 
-/// Why a drive was not opened or added, or why a reel was not moved or added. After each error the
-/// seat holds what it held before, and the stacks and the bin are unchanged.
+/// Why a drive was not opened or added, or a reel not moved or added. After each error the seat
+/// holds what it held before, and the stacks and the bin are unchanged, except that a latch in
+/// folders may have finished an interrupted move.
 #[derive(Clone, Copy, Debug, PartialEq, Eq, Error)]
 pub enum DriveFault {
     /// No drive has that name.
@@ -25,8 +23,7 @@ pub enum DriveFault {
     /// An allocation failed.
     #[error("OutOfMemory")]
     OutOfMemory,
-    /// The bin already has a reel with the name of the reel to move, or the name to add is already
-    /// taken.
+    /// The bin already has a reel with that name, or the name to add is already taken.
     #[error("NameTaken")]
     NameTaken,
 }
@@ -41,8 +38,6 @@ pub enum OpenRefusal {
 }
 
 impl From<AllocError> for DriveFault {
-    // from_gives: `from` turns a failed allocation into `OutOfMemory`.
-
     ghost use Rattle.std.specs.Prelude.{◌≡◌};
     ghost use Rattle.drives.specs.declared.fault.DriveFault.TheVariants.{OutOfMemory};
 

@@ -1,23 +1,23 @@
 //! Drives: which seat holds which drive, and which reels are on the stacks and in the bin.
 //!
 //! `DriveTable` combines `Holds` (a drive has at most one holder) with `Stacks` (a reel is in
-//! exactly one place). `LocalHolds` and `ListStacks` are their implementations for one thread, in
-//! memory.
+//! exactly one place). `LocalHolds` and `ListStacks` implement them in memory, for one thread.
 //!
 //! # Contracts
 //!
 //! A drive has a stack of reels, and all drives of a server share one bin. Each session has a
-//! *seat*, which has a number. The *hold record* (a `Holds`) has a number for each drive: the
-//! number of the seat that holds the drive, or 0 if no seat does. The seat that holds a drive is
-//! the drive's *holder*. A drive without a holder is *free*. A seat makes one *step* when it takes
-//! a drive, gives a drive back, or looks at a drive's holder. To open a drive, a session takes the
-//! drive for its seat and *latches* (takes into the drive) the first reel of the drive's stack. To
-//! close the drive, the session lays the reel back on the stack and gives the drive back (`give`).
-//! To take the reel offline, the session moves the reel to the bin (a *move*, the call `offline`).
-//! *The stacks* are all drives of a server with their stacks of reels, and the bin. `Stacks` is the
-//! trait of the stacks. The *library* of the stacks describes the drives, the reels and the bin as
-//! plain data. In the library each reel is *at rest*: the reel has entries and a capacity, but no
-//! position and no trouble (an injected fault).
+//! *seat* with a number. The *hold record* (a `Holds`) has a number for each drive: that of the
+//! seat that holds it (its *holder*). A *free* drive has no holder and the number 0. A seat makes
+//! one *step* when it takes a drive, gives a drive back, or looks at a drive's holder.
+//!
+//! To open a drive, a session takes the drive for its seat and *latches* (takes into the drive) the
+//! first reel of the drive's stack. To close the drive, the session lays the reel back and gives
+//! the drive back. To take the reel offline, the session moves it to the bin (a *move*, the call
+//! `offline`). A latched reel stays the first of its stack until it is laid back or moved.
+//!
+//! *The stacks* (a `Stacks`) are all drives of a server with their stacks, and the bin. Their
+//! *library* describes the drives, the reels and the bin as plain data. In it each reel is *at
+//! rest*: it has entries and a capacity, but no position and no trouble (an injected fault).
 #![tactic(auto)]
 
 mod fault;

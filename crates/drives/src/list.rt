@@ -1,7 +1,4 @@
-//! Drives, their stacks and the bin, all in memory.
-//!
-//! A drive's latched reel is the first of its stack: it is in the drive until it is laid back or
-//! moved to the bin.
+//! Stacks in memory.
 
 ghost use Rattle.std.specs.Prelude.{◌≡◌, ◌≢◌, ℕ, ◌<◌, List, IfErr, IfOk, IfSome, IsTrue, None, MatchBool, MatchResult, map, length};
 ghost use Rattle.std.specs.Option.{option_copied, option_map};
@@ -21,7 +18,9 @@ use tape::{Reel, TroubledReel};
 
 /// Drives with stacks of named reels and a bin, all in memory.
 ///
-/// The bin always has room for every reel that was added, so a move allocates nothing.
+/// The bin always has room for every reel that was added, so a move allocates nothing. A reel that
+/// is latched, laid back or moved keeps its own trouble and its count of failures. Each `drive`
+/// that is passed must be a number that `add_drive` returned.
 #[derive(Drop)]
 pub struct ListStacks {
     alloc: Global,
@@ -47,8 +46,6 @@ impl Model for ListStacks {
 impl ListStacks {
     /// Returns stacks with no drive, an empty bin and no trouble. It allocates nothing.
     pub fn new(alloc: Global) -> ListStacks
-        // The new stacks have no drive, an empty bin and no trouble. No device can fail, and no
-        // reel name occurs twice.
         ensures empty { result ≡ empty_library }
         ensures told { IsLibrary result (library_of result) }
         ensures quiet { StacksCanFail result → ⊥ }
@@ -63,18 +60,12 @@ impl ListStacks {
         }
     }
 
-    /// Adds a drive with the given name and an empty stack, and returns the drive's number. Drives
-    /// are numbered from 0.
+    /// Adds a drive with the given name and an empty stack, and returns its number, counted from 0.
     ///
     /// Fails with `NameTaken` if a drive has that name, and with `OutOfMemory`. Nothing is changed
     /// then.
     pub fn add_drive(&mut self, name: &[u8]) -> Result<usize, DriveFault>
-        // The new drive has an empty stack and the next number. `add_drive` fails with `NameTaken`
-        // only if an older drive has the same name, and otherwise with `OutOfMemory`. If
-        // `add_drive` fails, nothing changes.
         ensures added { IsDriveAdded self.old name.now result self.new }
-        // Each reel name still occurs only once. If no device could fail before `add_drive`, none
-        // can fail after it.
         ensures told { IsLibrary self.new (library_of self.new) }
         ensures quiet { StacksCanFail self.new → StacksCanFail self.old }
     {
@@ -84,20 +75,14 @@ impl ListStacks {
         self.put_drive(name)
     }
 
-    /// Adds an empty reel at the end of a drive's stack, and reserves room for this reel in the
-    /// bin. `drive` is a number that `add_drive` returned, and `capacity` is in bytes.
+    /// Adds an empty reel at the end of a drive's stack, and reserves room for it in the bin.
+    /// `capacity` is in bytes.
     ///
     /// Fails with `NameTaken` if a reel on a stack, in a drive or in the bin has that name, and
     /// with `OutOfMemory`. Nothing is changed then.
     pub fn add_reel(&mut self, drive: usize, name: &[u8], capacity: u64) -> Result<(), DriveFault>
         requires { drive < length self.old.library.drives }
-        // The new reel is last on its stack. The new reel is empty, has the given capacity, and has
-        // no trouble. `add_reel` fails with `NameTaken` only if an older reel (latched, on a stack
-        // or in the bin) has the same name, and otherwise with `OutOfMemory`. If `add_reel` fails,
-        // nothing changes.
         ensures added { IsReelAdded self.old drive name.now capacity result self.new }
-        // Each reel name still occurs only once. If no device could fail before `add_reel`, none
-        // can fail after it.
         ensures told { IsLibrary self.new (library_of self.new) }
         ensures quiet { StacksCanFail self.new → StacksCanFail self.old }
     {
@@ -107,13 +92,9 @@ impl ListStacks {
         self.put_reel(drive, name, capacity)
     }
 
-    /// Returns the reels of the given drive's stack, in order. The first one is latched, or would
-    /// be latched next. `drive` is a number that `add_drive` returned.
+    /// Returns the reels of the drive's stack, in order. The first may be latched.
     pub fn stack(&self, drive: usize) -> &[ListedReel]
         requires { drive < length self.now.library.drives }
-        // `stack` returns a `ListedReel` for each reel of the drive's stack. The stacks' library
-        // has these reels in the same order. The `ListedReel` of a latched reel contains only the
-        // reel's name.
         ensures lying { result.now ≡ (drive_at self.now.library drive).stack }
         ensures told { map rest_slot result.now ≡ (drive_at (library_of self.now) drive).stack }
     {
@@ -123,20 +104,14 @@ impl ListStacks {
 
     /// Returns the reels in the bin, in the order in which they were moved there.
     pub fn bin(&self) -> &[ListedReel]
-        // `bin` returns the reels in the bin. The stacks' library has these reels in the same
-        // order.
         ensures lying { result.now ≡ self.now.library.bin }
         ensures told { map rest_slot result.now ≡ (library_of self.now).bin }
     {
         &self.bin
     }
 
-    /// Returns the reel with the given name, on a stack or in the bin. Returns `None` if no reel
-    /// has the name or the reel is latched.
+    /// Returns the reel with the given name, on a stack or in the bin, unless it is latched.
     pub fn reel(&self, name: &[u8]) -> Option<&TroubledReel>
-        // `reel` returns the reel with the given name, on a stack or in the bin. `reel` returns
-        // `None` if no reel has this name, or while the reel is latched. The stacks' library has
-        // the same reel under the same name, at rest (without position and trouble).
         ensures found { option_copied result ≡ reel_named name.now (slots_in self.now.library) }
         ensures told { option_map at_rest (option_copied result) ≡ reel_named name.now (slots_in (library_of self.now)) }
     {
@@ -146,49 +121,31 @@ impl ListStacks {
         }
     }
 
-    /// Returns whether `arrange` can be called with the given names. No reel of the drive may be
-    /// latched, and the names must be distinct. Each must be the name of a reel on the drive's
-    /// stack or in the bin. `drive` is a number that `add_drive` returned.
+    /// Returns whether `arrange` can be called. No reel of the drive may be latched. The names must
+    /// be distinct names of reels on the drive's stack or in the bin.
     pub fn can_arrange(&self, drive: usize, names: &[&[u8]]) -> bool
         requires { drive < length self.now.library.drives }
-        // `can_arrange` returns true if and only if three conditions hold. The names are distinct.
-        // Each name belongs to a reel on the drive's stack or in the bin. No reel of the drive is
-        // latched. The three conditions hold for the stacks if and only if they hold for the
-        // stacks' library.
         ensures may { result ≡ may_arrange self.now.library drive (map (λ n. n.now) names.now) }
         ensures told { result ≡ may_arrange (library_of self.now) drive (map (λ n. n.now) names.now) }
     {
         self.can_put_stack(drive, names)
     }
 
-    /// Rearranges the given drive's stack, as an operator does. The stack then has the reels with
-    /// these names, in that order. Reels named from the bin leave it. The stack's other reels go to
-    /// the end of the bin, in their order. No reel itself changes. Call it only if `can_arrange`
-    /// returns true.
+    /// Rearranges the drive's stack, as an operator does: the stack then has the reels with these
+    /// names, in that order. The stack's other reels go to the end of the bin, in their order. Call
+    /// it only if `can_arrange` returns true.
     ///
     /// Fails with `OutOfMemory`. Nothing is changed then.
     pub fn arrange(&mut self, drive: usize, names: &[&[u8]]) -> Result<(), DriveFault>
         requires drive { drive < length self.old.library.drives }
         requires may { IsTrue (may_arrange self.old.library drive (map (λ n. n.now) names.now)) }
-        // After a successful `arrange` the drive's stack has the named reels, in the given order.
-        // Reels of the bin that were not named stay in the bin. Reels of the old stack that were
-        // not named are now at the end of the bin. The reels themselves do not change. If an
-        // allocation fails, nothing changes.
         ensures arranged { IsArranged self.old drive (map (λ n. n.now) names.now) result self.new }
-        // `arrange` rearranges the stacks' library (the plain data that describes the stacks) in
-        // the same way.
         ensures told_order { MatchResult result
             (λ _. library_of self.new ≡ arranged (library_of self.old) drive (map (λ n. n.now) names.now))
             (λ _. library_of self.new ≡ library_of self.old) }
-        // If `arrange` succeeds, the reels on the drive's stack have the given names, in the given
-        // order.
         ensures order { IfOk result (λ _. names_of (drive_at self.new.library drive).stack ≡ map (λ n. n.now) names.now) }
-        // After `arrange` each reel name still occurs exactly once.
         ensures told { IsLibrary self.new (library_of self.new) }
         ensures names { (name : List ℕ) → times name (names_in self.new.library) ≡ times name (names_in self.old.library) }
-        // Reels that are latched in other drives stay latched. If no device could fail before
-        // `arrange`, none can fail after it. The trouble of the stacks, the count of failures and
-        // the number of drives do not change.
         ensures elsewhere { (d : ℕ) → d ≢ drive → HasLatched IsLibrary self.old d → HasLatched IsLibrary self.new d }
         ensures quiet { StacksCanFail self.new → StacksCanFail self.old }
         ensures same_trouble { self.new.trouble ≡ self.old.trouble }
@@ -201,14 +158,11 @@ impl ListStacks {
     /// Sets whether the next latch or move to the bin fails with `Device`. A latch that finds no
     /// reel, and an `unlatch`, do not call the device and leave the setting.
     pub fn trouble(&mut self, on: bool)
-        // `trouble` sets or clears the trouble (the injected fault) of the stacks. Nothing else
-        // changes.
         ensures { self.new ≡ record self.old { trouble = on } }
     {
         self.trouble = on;
     }
 
-    /// Returns the number of the first drive with that name.
     fn number_of(&self, name: &[u8]) -> Option<usize>
         ensures found { IsDriveNamed name.now self.now.library result }
         ensures once { EachReelOnce self.now.library }
@@ -216,7 +170,6 @@ impl ListStacks {
         self.drives.iter().position(|chosen| chosen.is_named(name))
     }
 
-    /// Whether a reel on a stack, in a drive or in the bin has that name.
     fn has_reel(&self, name: &[u8]) -> bool
         ensures found { MatchBool result (0 < times name.now (names_in self.now.library)) (times name.now (names_in self.now.library) ≡ 0) }
         ensures once { EachReelOnce self.now.library }
@@ -224,7 +177,6 @@ impl ListStacks {
         any_stacked(&self.drives, name) || any_named(&self.bin, name)
     }
 
-    /// Adds a drive with a new name. Fails with `OutOfMemory`; nothing is changed then.
     fn put_drive(&mut self, name: &[u8]) -> Result<usize, DriveFault>
         requires { IsDriveNamed name.now self.old.library None }
         ensures { IsDriveAdded self.old name.now result self.new }
@@ -237,7 +189,6 @@ impl ListStacks {
         Ok(number)
     }
 
-    /// Adds an empty reel with a new name. Fails with `OutOfMemory`; nothing is changed then.
     fn put_reel(&mut self, drive: usize, name: &[u8], capacity: u64) -> Result<(), DriveFault>
         requires drive { drive < length self.old.library.drives }
         requires free { times name.now (names_in self.old.library) ≡ 0 }
@@ -251,8 +202,6 @@ impl ListStacks {
         Ok(())
     }
 
-    /// Returns the entry of the reel with that name, on a stack or in the bin. The reel may be
-    /// latched.
     fn listed(&self, name: &[u8]) -> Option<&ListedReel>
         ensures { option_copied result ≡ slot_named name.now (slots_in self.now.library) }
     {
@@ -262,9 +211,6 @@ impl ListStacks {
         find_named(&self.bin, name)
     }
 
-    /// Whether the drive's stack may be rearranged to the reels with these names. None of the
-    /// drive's reels may be latched, and the names must be distinct. Each must be the name of a
-    /// reel on that stack or in the bin.
     fn can_put_stack(&self, drive: usize, names: &[&[u8]]) -> bool
         requires { drive < length self.now.library.drives }
         ensures { result ≡ may_arrange self.now.library drive (map (λ n. n.now) names.now) }
@@ -276,9 +222,6 @@ impl ListStacks {
         all_differ(names) && all_there(names, &self.bin, chosen.stack())
     }
 
-    /// Rearranges the drive's stack: it then has the reels with these names, in that order, and its
-    /// other reels go to the end of the bin. Fails with `OutOfMemory` if an allocation fails, and
-    /// changes nothing then.
     fn put_stack(&mut self, drive: usize, names: &[&[u8]]) -> Result<(), DriveFault>
         requires { drive < length self.old.library.drives }
         ensures arranged { IsArranged self.old drive (map (λ n. n.now) names.now) result self.new }
@@ -292,9 +235,6 @@ impl ListStacks {
         Ok(())
     }
 
-    /// Latches the first reel of the drive's stack and returns it, at its beginning. Fails with
-    /// `NoReel` if the stack has no reel or its first reel is already latched. Otherwise fails with
-    /// `Device` if a trouble is set for the stacks.
     fn take_first(&mut self, drive: usize) -> Result<TroubledReel, DriveFault>
         requires { drive < length self.old.library.drives }
         ensures latched { IsReelLatched self.old drive result self.new }
@@ -314,7 +254,6 @@ impl ListStacks {
         Ok(reel)
     }
 
-    /// Puts `reel`, the drive's latched reel, back in its place on the stack. It cannot fail.
     fn lay_first(&mut self, drive: usize, reel: TroubledReel)
         requires drive { drive < length self.old.library.drives }
         requires latched { HasLatched IsLibrary self.old drive }
@@ -325,8 +264,6 @@ impl ListStacks {
         chosen.unlatch(reel);
     }
 
-    /// Moves `reel`, the drive's latched reel, to the end of the bin. Fails with `Device`, and
-    /// returns the reel, if a trouble is set for the stacks.
     fn move_first(
         &mut self,
         drive: usize,
@@ -348,7 +285,6 @@ impl ListStacks {
         Ok(())
     }
 
-    /// Counts a failed device call and clears the trouble that caused it. Returns `Device`.
     fn fail(&mut self) -> DriveFault
         ensures fault { result ≡ Device }
         ensures counted { self.new ≡ after_failure self.old }
@@ -360,27 +296,6 @@ impl ListStacks {
 }
 
 impl Stacks for ListStacks {
-    // drive, below, named, found: `drive` returns the number of the first drive with the given
-    // name, or `None` if no drive has this name.
-    //
-    // latch, made: A latch takes the first reel of the drive's stack and rewinds this reel
-    // (`IsReelLatched`). The reel keeps its trouble and its count of failures. If the first reel is
-    // latched already, the latch fails with `NoReel`. A latch never fails with `OutOfMemory`.
-    //
-    // unlatch, made: `unlatch` lays the reel back, unchanged, as the first reel of its stack
-    // (`IsReelLaidBack`).
-    //
-    // offline, made: A move takes the reel off its stack and puts the reel at the end of the bin
-    // (`IsReelMoved`). A move never fails with `OutOfMemory`.
-    //
-    // made: A move, or a latch that finds a reel, fails if and only if the trouble of the stacks is
-    // set. If the trouble makes a call fail, the stacks count a failure, clear the trouble, and
-    // move no reel. A latch that finds no reel does not clear the trouble.
-    //
-    // back: A failed move returns the reel.
-    //
-    // failures: `failures` returns the count of device failures.
-
     ghost use Rattle.std.proofs.Common.{ap, sym, ◌∙◌};
     ghost use Rattle.std.proofs.lemmas.List.{length-map};
     ghost use Rattle.drives.specs.ListLibrary.{rest_drive};
@@ -405,22 +320,17 @@ impl Stacks for ListStacks {
         self.number_of(name)
     }
 
-    /// Fails with `NoReel`, or with `Device` if a reel is there and the trouble is set. It
+    /// Fails only with `NoReel`, or with `Device` if a reel is there and the trouble is set. It
     /// allocates nothing.
-    ///
-    /// The reel keeps its own trouble, if one is set, and its count of failures.
     fn latch(&mut self, drive: usize) -> Result<TroubledReel, DriveFault> {
         self.take_first(drive)
     }
 
-    /// Lays the reel on its stack along with its trouble, if one is set, and its count of failures.
     fn unlatch(&mut self, drive: usize, reel: TroubledReel) {
         self.lay_first(drive, reel);
     }
 
-    /// Fails only with `Device`, if the trouble is set. It allocates nothing.
-    ///
-    /// The reel keeps its trouble in the bin, if one is set, and its count of failures.
+    /// Fails only with `Device`, if the trouble is set.
     fn offline(
         &mut self,
         drive: usize,

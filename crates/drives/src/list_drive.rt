@@ -1,7 +1,4 @@
-//! A drive in memory, with its stack.
-//!
-//! A drive's latched reel is the first of its stack: it is in the drive until it is laid back or
-//! moved to the bin.
+//! A drive in memory.
 
 ghost use Rattle.std.specs.Prelude.{◌≡◌, ◌≢◌, ◌<◌, ◌≤◌, vec_capacity, is_some, [], ◌∷◌, ◌++◌, None, IsSome, IfOk, MatchBool, MatchResult, length, flat_map};
 ghost use Rattle.std.specs.List.{list_any};
@@ -16,8 +13,8 @@ use std::alloc::{AllocError, Global};
 use std::marker::Model;
 use tape::TroubledReel;
 
-/// A drive of a `ListStacks`, with its stack. A latched reel keeps its entry at the front of the
-/// stack, without the reel itself.
+/// A drive of a `ListStacks`. A latched reel keeps its entry at the front of the stack, without the
+/// reel.
 #[derive(Drop)]
 pub(crate) struct ListDrive {
     name: Vec<u8>,
@@ -34,7 +31,6 @@ impl Model for ListDrive {
 }
 
 impl ListDrive {
-    /// Returns a drive with an empty stack. Fails if an allocation fails.
     pub(crate) fn new(alloc: Global, name: &[u8]) -> Result<ListDrive, AllocError>
         ensures { IfOk result (λ made. made ≡ drive_with name.now []) }
     {
@@ -44,28 +40,24 @@ impl ListDrive {
         })
     }
 
-    /// Whether the drive has that name.
     pub(crate) fn is_named(&self, name: &[u8]) -> bool
         ensures { MatchBool result (self.now.name ≡ name.now) (self.now.name ≢ name.now) }
     {
         self.name.as_slice() == name
     }
 
-    /// Returns the reels of the stack, in order.
     pub(crate) fn stack(&self) -> &[ListedReel]
         ensures { result.now ≡ self.now.stack }
     {
         &self.stack
     }
 
-    /// Whether a reel of the stack has that name, latched or not.
     pub(crate) fn has_reel(&self, name: &[u8]) -> bool
         ensures { result ≡ list_any (λ x. bytes_eq name.now x.name) self.now.stack }
     {
         any_named(&self.stack, name)
     }
 
-    /// Whether the stack has a first reel that is not latched.
     pub(crate) fn is_ready(&self) -> bool
         ensures { MatchBool result (IsSome (first_reel self.now.stack)) (first_reel self.now.stack ≡ None) }
     {
@@ -75,7 +67,6 @@ impl ListDrive {
         }
     }
 
-    /// Whether the first reel of the stack is latched.
     pub(crate) fn is_latched(&self) -> bool
         ensures { result ≡ is_some (latched_on self.now.stack) }
     {
@@ -85,8 +76,6 @@ impl ListDrive {
         }
     }
 
-    /// Takes the first reel of the stack out of its entry. Returns None if the stack is empty, or
-    /// the reel is latched already.
     pub(crate) fn latch(&mut self) -> Option<TroubledReel>
         ensures taken { result ≡ first_reel self.old.stack }
         ensures away { self.new ≡ drive_with self.old.name (with_first None self.old.stack) }
@@ -97,7 +86,6 @@ impl ListDrive {
         }
     }
 
-    /// Puts `reel`, which was latched, back into the first entry of the stack.
     pub(crate) fn unlatch(&mut self, reel: TroubledReel)
         requires { 0 < length self.old.stack }
         ensures { self.new ≡ drive_with self.old.name (with_first (Some reel) self.old.stack) }
@@ -106,7 +94,6 @@ impl ListDrive {
         first.put(reel);
     }
 
-    /// Removes the first entry from the stack and returns it.
     pub(crate) fn remove_first(&mut self) -> ListedReel
         requires { 0 < length self.old.stack }
         ensures first { self.old.stack ≡ result ∷ self.new.stack }
@@ -115,7 +102,7 @@ impl ListDrive {
         self.stack.remove(0)
     }
 
-    /// Moves the whole stack to the end of the bin. If an allocation fails, nothing is changed.
+    /// Moves the stack to the end of the bin.
     pub(crate) fn lay_off(&mut self, bin: &mut Vec<ListedReel>) -> Result<(), AllocError>
         ensures stack { MatchResult result (λ _. self.new ≡ drive_with self.old.name []) (λ _. self.new ≡ self.old) }
         ensures bin { MatchResult result (λ _. bin.new.items ≡ bin.old.items ++ self.old.stack) (λ _. bin.new.items ≡ bin.old.items) }
@@ -124,14 +111,12 @@ impl ListDrive {
         bin.append(&mut self.stack)
     }
 
-    /// Replaces the stack of the drive by `stack`.
     pub(crate) fn lay_on(&mut self, stack: Vec<ListedReel>)
         ensures { self.new ≡ drive_with self.old.name stack.items }
     {
         self.stack = stack;
     }
 
-    /// Adds a reel at the end of the stack. If an allocation fails, nothing is changed.
     pub(crate) fn push(&mut self, reel: ListedReel) -> Result<(), AllocError>
         ensures { MatchResult result (λ _. self.new ≡ drive_with self.old.name (self.old.stack ++ reel ∷ [])) (λ _. self.new ≡ self.old) }
     {
@@ -140,14 +125,12 @@ impl ListDrive {
     }
 }
 
-/// Whether a reel on one of the stacks has that name, latched or not.
 pub(crate) fn any_stacked(drives: &[ListDrive], name: &[u8]) -> bool
     ensures { result ≡ list_any (λ r. list_any (λ x. bytes_eq name.now x.name) r.stack) drives.now }
 {
     drives.iter().any(|drive| drive.has_reel(name))
 }
 
-/// Returns the entry of the reel with that name on one of the stacks, if there is one.
 pub(crate) fn find_stacked<'a>(drives: &'a [ListDrive], name: &[u8]) -> Option<&'a ListedReel>
     ensures { option_copied result ≡ slot_named name.now (flat_map (λ r. r.stack) drives.now) }
 {

@@ -1,7 +1,4 @@
-//! A reel in memory, with its name.
-//!
-//! A drive's latched reel is the first of its stack: it is in the drive until it is laid back or
-//! moved to the bin.
+//! A reel in memory.
 
 ghost use Rattle.std.specs.Prelude.{◌≡◌, Some, None, IfOk, MatchOption};
 ghost use Rattle.std.specs.Str.{bytes_eq};
@@ -12,7 +9,7 @@ use std::alloc::{AllocError, Global};
 use std::marker::Model;
 use tape::{ListReel, TroubledReel};
 
-/// An entry for one reel on a stack or in the bin of a `ListStacks`. While the reel is latched, the
+/// The entry of one reel on a stack or in the bin of a `ListStacks`. While the reel is latched, the
 /// entry has only the name.
 #[derive(Drop)]
 pub struct ListedReel {
@@ -30,7 +27,7 @@ impl Model for ListedReel {
 }
 
 impl ListedReel {
-    /// Returns an entry with an empty reel. `capacity` is in bytes. Fails if an allocation fails.
+    /// An entry with an empty reel. `capacity` is in bytes.
     pub(crate) fn new(alloc: Global, name: &[u8], capacity: u64) -> Result<ListedReel, AllocError>
         ensures { IfOk result (λ made. made ≡ slot name.now (Some (blank_reel capacity))) }
     {
@@ -44,7 +41,6 @@ impl ListedReel {
 
     /// Returns the name of the reel.
     pub fn name(&self) -> &[u8]
-        // `name` returns the reel's name.
         ensures { result.now ≡ self.now.name }
     {
         &self.name
@@ -52,20 +48,17 @@ impl ListedReel {
 
     /// Returns the reel, or `None` while the reel is latched.
     pub fn reel(&self) -> Option<&TroubledReel>
-        // `reel` returns a reference to the reel. While the reel is latched, `reel` returns `None`.
         ensures { MatchOption result (self.now.reel ≡ None) (λ reel. self.now.reel ≡ Some reel.now) }
     {
         self.reel.as_ref()
     }
 
-    /// Whether the reel has that name.
     pub(crate) fn is_named(&self, name: &[u8]) -> bool
         ensures { result ≡ bytes_eq name.now self.now.name }
     {
         name == self.name.as_slice()
     }
 
-    /// Takes the reel out of the entry, if it is there.
     pub(crate) fn take(&mut self) -> Option<TroubledReel>
         ensures taken { result ≡ self.old.reel }
         ensures away { self.new ≡ slot self.old.name None }
@@ -73,7 +66,6 @@ impl ListedReel {
         self.reel.take()
     }
 
-    /// Puts a reel into the entry, under its name.
     pub(crate) fn put(&mut self, reel: TroubledReel)
         ensures { self.new ≡ slot self.old.name (Some reel) }
     {

@@ -1,4 +1,4 @@
-//! The drives of one thread, and its seats.
+//! The hold record of one thread.
 
 ghost use Rattle.std.specs.Prelude.{◌≡◌, ◌<◌, ◌≤◌, ◌+◌, None, IfOk, IfSome, replicate, length};
 ghost use Rattle.drives.specs.declared.view.View.{View};
@@ -9,8 +9,7 @@ use crate::{DRIVE_LIMIT, Holds, LastStep, StepKind, Taken, View};
 use std::alloc::{AllocError, Global};
 use std::marker::Model;
 
-/// A seat at the drives of one thread. Only `LocalHolds::seat` creates one. Contracts see its
-/// `View`.
+/// A seat at the drives of one thread, made by `LocalHolds::seat`.
 #[derive(Drop)]
 pub struct LocalSeat {
     view: View,
@@ -25,7 +24,6 @@ impl Model for LocalSeat {
 }
 
 impl LocalSeat {
-    // Counts one step, up to `u64::MAX`, and records it as the last one.
     fn count(&mut self, kind: StepKind, drive: usize, found: u64)
         ensures { self.new ≡ moved self.old self.old.held (last_step kind drive found) }
     {
@@ -34,8 +32,7 @@ impl LocalSeat {
     }
 }
 
-/// The drives of one thread, from 1 to `DRIVE_LIMIT`. Each has the number of the seat that holds
-/// it, or 0.
+/// The drives of one thread, from 1 to `DRIVE_LIMIT`.
 #[derive(Drop)]
 pub struct LocalHolds {
     numbers: Vec<u64>,
@@ -53,13 +50,11 @@ impl Model for LocalHolds {
 }
 
 impl LocalHolds {
-    /// Returns a new hold record, in which every drive is free. `drives` is the number of drives,
-    /// from 1 to `DRIVE_LIMIT`. Fails only if an allocation fails.
+    /// Returns a hold record of 1 to `DRIVE_LIMIT` drives, all free. Fails only if an allocation
+    /// fails.
     pub fn new(alloc: Global, drives: usize) -> Result<LocalHolds, AllocError>
         requires some { 1 ≤ drives }
         requires few { drives ≤ DRIVE_LIMIT }
-        // In the new hold record every drive is free. The record has not assigned a seat number
-        // yet.
         ensures { IfOk result (λ all. all ≡ holders (replicate drives 0) 0) }
     {
         let numbers = Vec::from_elem(alloc, 0u64, drives)?;
@@ -69,11 +64,7 @@ impl LocalHolds {
     /// Returns a new seat that holds no drive. Seats are numbered 1, 2, 3 and so on. Returns `None`
     /// once `u64::MAX` was assigned. It allocates nothing.
     pub fn seat(&mut self) -> Option<LocalSeat>
-        // `seat` returns a seat with the next number, beginning with 1. `seat` returns `None` if
-        // and only if the greatest `u64` was already assigned to a seat.
         ensures next { IsSeatGiven self.old result self.new }
-        // The new seat belongs to this hold record and holds no drive. Older seats still belong to
-        // the record.
         ensures own { IfSome result (λ seat. IsSeatOf self.new seat) }
         ensures idle { IfSome result (λ seat. HoldsJust seat None) }
         ensures others { (v : View) → IsSeatOf self.old v → IsSeatOf self.new v }
@@ -92,11 +83,9 @@ impl LocalHolds {
     }
 
     /// Returns the number of the seat that holds the given drive, or 0 if no seat does. The drive
-    /// must exist. It does not count as a step of a seat.
+    /// must exist. This is not a step of a seat.
     pub fn number_at(&self, drive: usize) -> u64
         requires { drive < length self.now.numbers }
-        // `number_at` returns the number of the drive's holder, or 0 if the drive is free. No seat
-        // makes a step during the call.
         ensures { IsHeldBy self.now drive result }
     {
         let numbers = &self.numbers;
@@ -105,16 +94,6 @@ impl LocalHolds {
 }
 
 impl Holds for LocalHolds {
-    // take: A take is one step of the given seat. If the drive is free, the take makes the given
-    // seat the drive's holder. If the drive is not free, the take finds the holder's number, and the
-    // holder stays. A take assigns no seat number.
-    //
-    // give: A give is one step of the given seat, and frees the drive. A give assigns no seat
-    // number.
-    //
-    // holder: A call of `holder` is one step of the given seat. `holder` returns the number of the
-    // drive's holder, or 0 if the drive is free.
-
     ghost use Rattle.std.specs.Prelude.{length};
     ghost use Rattle.drives.specs.Local.{IsSeatOf, IsHeldBy};
     ghost use Rattle.std.proofs.Common.{arith};

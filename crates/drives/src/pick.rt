@@ -8,14 +8,12 @@ ghost use Rattle.drives.specs.Arranging.{slot_named, without, picked, left, is_r
 
 use crate::ListedReel;
 
-/// Whether one of the reels has that name.
 pub(crate) fn any_named(reels: &[ListedReel], name: &[u8]) -> bool
     ensures { result ≡ list_any (λ x. bytes_eq name.now x.name) reels.now }
 {
     reels.iter().any(|reel| reel.is_named(name))
 }
 
-/// Whether all names are distinct.
 pub(crate) fn all_differ(names: &[&[u8]]) -> bool
     ensures { result ≡ are_distinct (map (λ n. n.now) names.now) }
 {
@@ -27,7 +25,6 @@ pub(crate) fn all_differ(names: &[&[u8]]) -> bool
     true
 }
 
-/// Whether the first name occurs again among the others.
 fn occurs_again(names: &[&[u8]]) -> bool
     ensures { result ≡ is_repeated (map (λ n. n.now) names.now) }
 {
@@ -37,14 +34,12 @@ fn occurs_again(names: &[&[u8]]) -> bool
     any_is(others, name)
 }
 
-/// Whether one of the names equals `name`.
 fn any_is(names: &[&[u8]], name: &[u8]) -> bool
     ensures { result ≡ list_any (λ n. bytes_eq name.now n.now) names.now }
 {
     names.iter().any(|other| name == *other)
 }
 
-/// Whether each name is the name of a reel in the bin or on the stack.
 pub(crate) fn all_there(names: &[&[u8]], bin: &[ListedReel], stack: &[ListedReel]) -> bool
     ensures { result ≡ list_all (λ n. is_among bin.now n.now || is_among stack.now n.now) names.now }
 {
@@ -53,21 +48,18 @@ pub(crate) fn all_there(names: &[&[u8]], bin: &[ListedReel], stack: &[ListedReel
         .all(|name| any_named(bin, name) || any_named(stack, name))
 }
 
-/// Returns the first reel with that name, if there is one.
 pub(crate) fn find_named<'a>(reels: &'a [ListedReel], name: &[u8]) -> Option<&'a ListedReel>
     ensures { option_copied result ≡ slot_named name.now reels.now }
 {
     reels.iter().find(|reel| reel.is_named(name))
 }
 
-/// Returns the index of the first reel with that name.
 fn place_of(reels: &[ListedReel], name: &[u8]) -> Option<usize>
     ensures { result ≡ position_from (λ x. bytes_eq name.now x.name) 0 reels.now }
 {
     reels.iter().position(|reel| reel.is_named(name))
 }
 
-/// Removes and returns the first reel with that name, if there is one.
 fn take_out(reels: &mut Vec<ListedReel>, name: &[u8]) -> Option<ListedReel>
     ensures taken { result ≡ slot_named name.now reels.old.items }
     ensures left { reels.new.items ≡ without name.now reels.old.items }
@@ -79,8 +71,7 @@ fn take_out(reels: &mut Vec<ListedReel>, name: &[u8]) -> Option<ListedReel>
     Some(reels.remove(place))
 }
 
-/// Moves the reels with these names to the end of `onto`, in the order of the names. `onto` must
-/// have room for one reel for each name. Names that no reel has are skipped.
+/// Moves the reels with these names to the end of `onto`.
 pub(crate) fn pick(reels: &mut Vec<ListedReel>, names: &[&[u8]], onto: &mut Vec<ListedReel>)
     requires { vec_len onto.old + length names.now ≤ vec_capacity onto.old }
     ensures picked { onto.new.items ≡ onto.old.items ++ picked (map (λ n. n.now) names.now) reels.old.items }

@@ -1,4 +1,4 @@
-//! The result of taking a drive.
+//! The result of a take.
 
 /// The result of taking a drive.
 #[derive(Clone, Copy, Debug, PartialEq, Eq)]

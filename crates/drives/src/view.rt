@@ -1,4 +1,4 @@
-//! The view of a seat, and its last step.
+//! The view of a seat.
 
 use crate::DRIVE_LIMIT;
 
@@ -13,10 +13,10 @@ pub enum StepKind {
     Look,
 }
 
-/// One step of a seat at a drive, with the number that the step found there.
+/// One step of a seat at a drive.
 #[derive(Clone, Copy, Debug, Drop)]
 pub struct LastStep {
-    /// The kind of the step.
+    /// What the step does.
     pub kind: StepKind,
     /// The number of the drive, from 0.
     pub drive: usize,
@@ -25,7 +25,7 @@ pub struct LastStep {
     pub found: u64,
 }
 
-/// What a seat knows: its number, the drives that it holds, its count of steps and its last step.
+/// What a seat knows.
 #[derive(Drop)]
 pub struct View {
     /// The number of the seat, from 1.

@@ -1,7 +1,12 @@
 -- The requests that are appended: how long their texts are, and their bytes in a vector.
 use Rattle.std.proofs.Common.{◌≡◌, ℕ, ◌≤◌, List, [], length, length-append, replicate, refl, arith, inr, Result, Ok, Err, ◌+◌, ◌-◌, ◌++◌, take, drop, length-drop, ap, ◌∙◌}
 use Rattle.dump_client.proofs.Attempt.{sym, length-take, length-take-le, length-replicate, take-append-le, PlainRequest, IsTextOf, SpellsRequest, request_text, unsent, READER_LIMIT, IsShapedAs, IsRequestOf, IsRequestPushed, AppendedBy, number_of, request_of, PlainRun, Step, Standing, checkpoint_of}
-use Rattle.dump_client.proofs.Attempt.{AttemptFault}
+use Rattle.dump_client.proofs.Attempt.{AttemptFault, Waiting, ◌∷◌, append_assoc, take-length}
+use Rattle.std.proofs.Math.Seq.{drop-append_seam}
+use Rattle.dump_client.specs.declared.stage.Stage.{Stage}
+use Rattle.std.specs.Prelude.{get_or, decimal}
+use Rattle.rmt_wire.specs.Number.{line_feed}
+use Rattle.dump_client.specs.Client.{EndsWithBlock}
 use Rattle.std.proofs.lemmas.Slice.{take-put_mid}
 use borrow.Rule.Slice.PartMut.{put_mid, post_of}
 use Rattle.rmt_wire.specs.Request.PlainRequest.{Open, Close, Write, WriteDropped, Read, Op}
@@ -66,3 +71,30 @@ filled len start size lent items given same all place long =
       take-append-le len put (drop (length put) items) (omega arith)
           ∙ take-put_mid start (length lent - start) lent given len (omega arith) (omega arith) ∙ ap (λ l. take start l ++ given) same,
     )
+
+-- the text of a block's write ends with the block
+pub carried : (told : List (List ℕ) → Type 0) (run : PlainRun) (at : ℕ × ℕ) (step : Step) (request : PlainRequest) (before now : List ℕ) (payload : List (List ℕ))
+    → IsRequestOf told run at step request → now ≡ before ++ request_text request → told payload
+    → EndsWithBlock payload run.block_bytes (Waiting step) now
+carried told run at (steps.Block number) request before now payload is text t =
+    let block = get_or payload number [] in
+    let same : request ≡ Write block = is.0 payload t in
+    let size : length block ≡ run.block_bytes = grind (arith, is.1, same) in
+    let line : List ℕ = 87 ∷ (decimal (length block) ++ line_feed ∷ []) in
+    (before ++ line, grind (arith, text, same, append_assoc), size)
+carried told run at step request before now payload is text t = grind arith
+
+-- the last bytes of such a text are the block
+pub tail_block : (payload : List (List ℕ)) (size : ℕ) (stage : Stage) (number start : ℕ) (text : List ℕ) → Waiting (steps.Block number) ≡ stage
+    → EndsWithBlock payload size stage text → start + size ≡ length text
+    → take (length text - start) (drop start text) ≡ get_or payload number []
+tail_block payload size stage number start text at ends place = by (rw (← at) at ends)
+  where
+    by : EndsWithBlock payload size (Waiting (steps.Block number)) text → take (length text - start) (drop start text) ≡ get_or payload number []
+    by h =
+        let block = get_or payload number [] in
+        let long : length text ≡ length h.0 + length block = ap length h.1 ∙ length-append h.0 block in
+        let here : start ≡ length h.0 = omega (arith, long, h.2, place) in
+        let count : length text - start ≡ length block = omega (arith, long, here) in
+        let tail : drop start text ≡ block = ap (λ n. drop n text) here ∙ ap (λ l. drop (length h.0) l) h.1 ∙ drop-append_seam h.0 block in
+        ap (λ l. take (length text - start) l) tail ∙ ap (λ n. take n block) count ∙ take-length block

@@ -127,6 +127,17 @@ NextRequestAt (ToSend step) told old capacity before (Err fault) now new =
     × (new ≡ standing old.run old.counts Asking)
 NextRequestAt stage told old capacity before result now new = (result ≡ Ok false) × (now ≡ before) × (new ≡ old)
 
+-- If the stage waits for the reply to the write of a block, the text ends with that block of the
+-- payload, which has this size.
+abbrev pub EndsWithBlock : List (List ℕ) → ℕ → Stage → List ℕ → Type 0
+EndsWithBlock payload size (Waiting (Block number)) text =
+    (front : List ℕ) × (text ≡ front ++ get_or payload number []) × (length (get_or payload number []) ≡ size)
+EndsWithBlock payload size stage text = Unit {0}
+
+-- the text ends with the block of the client's last request, if the payload is known
+abbrev pub Carries : {B : Type 0} → (B → List (List ℕ) → Type 0) → ClientHeld B → List ℕ → Type 0
+Carries holds c text = (payload : List (List ℕ)) → holds c.source payload → EndsWithBlock payload c.at.run.block_bytes c.at.stage text
+
 -- whether the fault is that a read of the source failed
 abbrev pub is_source_fault : {T : Type 0} → Result T AttemptFault → Bool
 is_source_fault (Err SourceFault) = true

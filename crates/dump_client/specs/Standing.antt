@@ -118,8 +118,8 @@ CutAt (ToSend step) old progress new = ReceivesAt old step End false progress ne
 CutAt (Waiting step) old progress new = ReceivesAt old step End false progress new
 CutAt stage old progress new = (progress ≡ moved.Idle) × (new ≡ old)
 
--- an attempt starts at the checkpoint; it is refused in other stages, and if there is no room for
--- its count
+-- an attempt starts at the checkpoint; it is refused in each stage but `Ready`, in which it can be
+-- refused only if there was no room for its count
 abbrev pub StartedAt : Stage → Standing → ℕ → Result Unit StartFault → Standing → Type 0
 StartedAt Ready old room (Ok x) new = new ≡ standing old.run old.counts (ToSend Open)
 StartedAt Ready old room (Err OutOfMemory) new = (room ≡ 0) × (new ≡ old)

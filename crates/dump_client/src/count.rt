@@ -1,4 +1,4 @@
-//! Computes from the counted volumes the beginning of the next one, and whether the run is covered.
+//! The beginning of the next volume, and whether the run is covered.
 ghost use Rattle.std.specs.Prelude.{◌≡◌, MatchBool};
 ghost use Rattle.dump_client.specs.Position.{Covers};
 ghost use Rattle.dump_client.specs.Standing.{checkpoint_of};

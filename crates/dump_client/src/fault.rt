@@ -1,10 +1,8 @@
-//! Why an attempt fails, and why a client refuses a call.
+//! The errors of a client.
 
 use thiserror::Error;
 
-/// Why an attempt to write a volume failed.
-///
-/// The volume is not counted then, and nothing more is sent on the connection.
+/// Why an attempt failed. Its volume is not counted, and nothing more is sent on the connection.
 #[derive(Clone, Copy, Debug, PartialEq, Eq, Error)]
 pub enum AttemptFault {
     /// The server replied with this error number. ENOSPC in reply to a write is the end of the reel

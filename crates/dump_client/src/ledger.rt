@@ -1,7 +1,4 @@
 //! The run, its counts and the stage, on which a client's requests and counts depend.
-//!
-//! A count is the record of a volume that was written whole: its number, its first block and its
-//! number of blocks.
 ghost use Rattle.std.specs.Prelude.{◌≡◌, ℕ, ◌+◌, ◌<◌, false, List, [], length, OnErr, OnOk, None};
 ghost use Rattle.rmt_wire.specs.Reply.{PlainReply};
 ghost use Rattle.rmt_wire.specs.ReplyReader as readers;
@@ -25,7 +22,6 @@ use crate::{Answer, AttemptFault, Progress, Run, StartFault, VolumeCount};
 use std::alloc::Global;
 use std::marker::Model;
 
-/// The run, the counted volumes, and the stage.
 #[derive(Drop)]
 pub(crate) struct Ledger {
     run: Run,
@@ -48,7 +44,6 @@ impl Model for Ledger {
 }
 
 impl Ledger {
-    /// Makes a ledger with nothing counted, in stage `Ready`.
     pub(crate) fn new(alloc: Global, run: Run) -> Ledger
         ensures { result.at ≡ standing run [] stages.Ready }
     {
@@ -59,7 +54,6 @@ impl Ledger {
         }
     }
 
-    /// Makes a ledger with these counted volumes, in no attempt.
     pub(crate) fn resumed(run: Run, counted: Vec<VolumeCount>) -> Ledger
         requires run { IsRun run }
         requires volumes { AreVolumes run 1 0 counted.items }
@@ -73,21 +67,18 @@ impl Ledger {
         }
     }
 
-    /// Returns the run.
     pub(crate) fn run(&self) -> &Run
         ensures { result.now ≡ self.now.at.run }
     {
         &self.run
     }
 
-    /// Returns the counted volumes, in order.
     pub(crate) fn counted(&self) -> &[VolumeCount]
         ensures { result.now ≡ self.now.at.counts }
     {
         &self.counted
     }
 
-    /// Returns the stage.
     pub(crate) fn stage(&self) -> Stage
         ensures value { result ≡ self.now.at.stage }
         ensures lawful { IsLawful self.now.at }
@@ -103,10 +94,7 @@ impl Ledger {
         checkpoint(&self.run, &self.counted)
     }
 
-    /// Starts an attempt, and reserves the room for its count.
-    ///
-    /// Returns `WrongState` unless the stage is `Ready`, and `OutOfMemory` if the allocation fails.
-    /// Nothing has changed then.
+    /// Starts an attempt, and reserves the room for its count. If it fails, nothing has changed.
     pub(crate) fn start(&mut self) -> Result<(), StartFault>
         ensures started { StartedAt self.old.at.stage self.old.at self.old.room result self.new.at }
         ensures room { OnOk result (0 < self.new.room) }
@@ -122,7 +110,6 @@ impl Ledger {
         Ok(())
     }
 
-    /// Takes the operator's answer. Returns `WrongState` unless the stage is `Asking`.
     pub(crate) fn answer(&mut self, answer: Answer) -> Result<(), StartFault>
         ensures answered { AnsweredAt self.old.at.stage self.old.at answer result self.new.at }
         ensures slots { self.new.room + length self.new.at.counts ≡ self.old.room + length self.old.at.counts }
@@ -137,7 +124,6 @@ impl Ledger {
         Ok(())
     }
 
-    /// Waits for the reply to a step, whose request was sent.
     pub(crate) fn wait(&mut self, step: Step)
         requires { self.old.at.stage ≡ stages.ToSend step }
         ensures waits { self.new.at ≡ standing self.old.at.run self.old.at.counts (stages.Waiting step) }
@@ -164,7 +150,6 @@ impl Ledger {
         self.apply_outcome(outcome, more)
     }
 
-    /// Takes bytes, at a step, that are no reply or that come while no reply is awaited.
     #[tactic(auto, using(crate::proofs::Going::noise_at, crate::proofs::Received::final_fed, crate::proofs::Outcomes::noise_final))]
     pub(crate) fn noise(&mut self, step: Step) -> Progress
         requires at { IsAtStep self.old.at.stage step }
@@ -179,7 +164,6 @@ impl Ledger {
         self.apply_outcome(after_noise(step), false)
     }
 
-    /// Notes that the connection ended at a step, and returns what that means for the attempt.
     #[tactic(auto, using(crate::proofs::Going::end_at, crate::proofs::Received::final_fed, crate::proofs::Outcomes::end_final))]
     pub(crate) fn end(&mut self, step: Step) -> Progress
         requires at { IsAtStep self.old.at.stage step }
@@ -214,7 +198,7 @@ impl Ledger {
         }
     }
 
-    /// Changes the stage: the request of this step is to be sent.
+    /// The request of this step is to be sent.
     fn send(&mut self, step: Step) -> Progress
         requires { OutcomeFits self.old.at.run self.old.at.counts self.old.room (outcomes.GoesOn step) }
         ensures becomes { Becomes self.old.at (outcomes.GoesOn step) false result self.new.at }
@@ -224,7 +208,6 @@ impl Ledger {
         Progress::Send
     }
 
-    /// Fails the attempt. The stage is `Asking` then.
     pub(crate) fn fail(&mut self, fault: AttemptFault) -> Progress
         requires { IsUnfinishedRun self.old.at.run self.old.at.counts }
         ensures failed { (result ≡ moved.Failed fault) × (self.new.at ≡ standing self.old.at.run self.old.at.counts stages.Asking) }
@@ -234,8 +217,7 @@ impl Ledger {
         Progress::Failed(fault)
     }
 
-    /// Counts the volume, which ends before block `next`. If more bytes follow the reply, the
-    /// attempt is over.
+    /// Counts the volume, which ends before block `next`.
     #[tactic(auto, using(crate::proofs::Checkpoint::volumes_to, crate::proofs::Checkpoint::counted_some))]
     fn count(&mut self, next: u32, more: bool) -> Progress
         requires { OutcomeFits self.old.at.run self.old.at.counts self.old.room (outcomes.Counted next) }
@@ -257,7 +239,6 @@ impl Ledger {
         Progress::Send
     }
 
-    /// Ends the attempt. The stage is `Finished` or `Ready` then.
     pub(crate) fn finish(&mut self) -> Progress
         ensures over { (result ≡ moved.Ended) × IsOver self.old.at.run self.old.at.counts self.new.at }
         ensures slots { self.new.room + length self.new.at.counts ≡ self.old.room + length self.old.at.counts }
@@ -267,7 +248,7 @@ impl Ledger {
     }
 }
 
-/// Returns the stage after an attempt that is over: `Finished` if the run is covered, else `Ready`.
+/// Returns the stage after an attempt that is over.
 #[tactic(auto, using(crate::proofs::Checkpoint::left_of))]
 fn over(run: &Run, counts: &[VolumeCount]) -> Stage
     requires run { IsRun run.now }

@@ -1,7 +1,4 @@
 //! Reads the replies that a client waits for.
-//!
-//! A count is the record of a volume that was written whole: its number, its first block and its
-//! number of blocks.
 ghost use Rattle.std.specs.Prelude.{◌≡◌, ℕ, List, ◌++◌, Some};
 ghost use Rattle.rmt_wire.specs.Lent.{plain_reply};
 ghost use Rattle.rmt_wire.specs.Reply.{Wanted};
@@ -13,7 +10,7 @@ use crate::{Run, VolumeCount, VolumeLabel};
 use dump_run::label;
 use rmt_wire::{Reply, ReplyReader, WireFault};
 
-/// A reply without its text and its bytes: the part of it on which a client depends.
+/// The part of a reply on which a client depends.
 #[derive(Clone, Copy)]
 pub(crate) enum ReplySummary {
     /// The number that an operation returned.
@@ -24,7 +21,7 @@ pub(crate) enum ReplySummary {
     Error(u32),
 }
 
-/// A reply that came: its summary and, if it is a record that is a label, the label.
+/// A reply that came, and the label that it contains.
 #[derive(Drop)]
 pub(crate) struct HeardReply {
     pub(crate) summary: ReplySummary,
@@ -42,8 +39,7 @@ pub(crate) enum FeedResult {
     Noise,
 }
 
-/// Returns the number of the first of these counted volumes whose label the bytes are, or None. It
-/// allocates nothing.
+/// Returns the first of these counted volumes whose label the bytes are.
 fn counted_label(run: &Run, counts: &[VolumeCount], bytes: &[u8]) -> Option<u32>
     ensures { result ≡ script.counted_label run.now counts.now bytes.now }
 {
@@ -55,7 +51,6 @@ fn counted_label(run: &Run, counts: &[VolumeCount], bytes: &[u8]) -> Option<u32>
     None
 }
 
-/// Summarizes a reply for a client of this run with these counts, and reads the label in it.
 fn without_text(reply: Reply<'_>, run: &Run, counts: &[VolumeCount]) -> HeardReply
     ensures { IsHeardAs run.now counts.now (plain_reply reply.entry) result }
 {
@@ -75,8 +70,7 @@ fn without_text(reply: Reply<'_>, run: &Run, counts: &[VolumeCount]) -> HeardRep
     }
 }
 
-/// Reads the reply that is awaited from the bytes that the reader holds. Returns None if it is not
-/// complete, and the reader's fault if the bytes are no reply.
+/// Reads the awaited reply. Returns None if it is not complete.
 fn hear(
     reader: &mut ReplyReader,
     run: &Run,
@@ -92,13 +86,7 @@ fn hear(
 }
 
 /// Pushes a piece of the stream to a reader that waits for a reply, up to the end of the first
-/// reply. The bytes of a record are compared with the labels of the counted volumes, and are read
-/// as a label.
-///
-/// The bytes pushed before must be a beginning of a reply, and the reader must have room. After
-/// `Waits` this is so again, with the whole piece. After a reply that no byte follows, the reader
-/// waits for nothing and holds nothing. After any other result it may have taken only part of the
-/// piece. It allocates nothing.
+/// reply.
 pub(crate) fn listen(
     reader: &mut ReplyReader,
     run: &Run,

@@ -1,12 +1,5 @@
-//! Decides what comes next in an attempt.
-//!
-//! In these functions `first` is the first block of the attempt's volume, and `n` is the number in
-//! the server's reply.
-//!
-//! The look is the read of the reel's first record, before anything is written.
-//!
-//! A count is the record of a volume that was written whole: its number, its first block and its
-//! number of blocks.
+//! Decides what comes next in an attempt. `first` is the first block of the attempt's volume, and
+//! `n` the number in the server's reply.
 ghost use Rattle.std.specs.Prelude.{◌≡◌, ◌<◌, ℕ, List};
 ghost use Rattle.rmt_wire.specs.Reply.{PlainReply};
 ghost use Rattle.dump_client.specs.Listening.{IsSummary};
@@ -21,8 +14,7 @@ use crate::{AttemptFault, Run};
 use dump_run::LABEL_BYTES;
 use rmt_wire::errno::ENOSPC;
 
-/// The next event of an attempt: another step, a failure, the count of its volume, or its end.
-/// `Counted` has the first block that is not in the volume.
+/// The next event of an attempt. `Counted` has the first block that is not in the volume.
 #[derive(Clone, Copy)]
 pub(crate) enum Outcome {
     GoesOn(Step),
@@ -31,7 +23,6 @@ pub(crate) enum Outcome {
     Ended,
 }
 
-/// Returns the write of block `number`, or the mark if no block is left.
 fn block_or_mark(run: &Run, number: u32) -> Step
     ensures { result ≡ spec.block_or_mark run.now number }
 {
@@ -42,7 +33,6 @@ fn block_or_mark(run: &Run, number: u32) -> Step
     }
 }
 
-/// Returns what follows a tape operation that was done.
 fn after_done(op: TapeOp) -> Outcome
     ensures { result ≡ spec.after_done op }
 {
@@ -54,8 +44,7 @@ fn after_done(op: TapeOp) -> Outcome
     }
 }
 
-/// Returns what follows a step that was done. Only this function and `after_done` know the order of
-/// the requests.
+/// Only this function and `after_done` know the order of the requests.
 fn after_step(run: &Run, first: u32, step: Step) -> Outcome
     requires run { IsRun run.now }
     requires block { spec.IsBelow run.now step }
@@ -71,8 +60,7 @@ fn after_step(run: &Run, first: u32, step: Step) -> Outcome
     }
 }
 
-/// Returns what follows if the reel has no room for a record. If a block of the volume was written,
-/// that is the end of the reel.
+/// Returns what follows if the reel has no room for a record.
 fn at_end_of_reel(first: u32, step: Step) -> Outcome
     ensures { result ≡ spec.at_end_of_reel first step }
 {
@@ -84,7 +72,6 @@ fn at_end_of_reel(first: u32, step: Step) -> Outcome
     }
 }
 
-/// Returns what follows if the server replies with number `n` to a write of `size` bytes.
 fn after_write(run: &Run, first: u32, step: Step, size: usize, n: u32) -> Outcome
     requires run { IsRun run.now }
     requires block { spec.IsBelow run.now step }
@@ -99,7 +86,6 @@ fn after_write(run: &Run, first: u32, step: Step, size: usize, n: u32) -> Outcom
     }
 }
 
-/// Returns what follows if the server replies with the number `n`.
 fn after_number(run: &Run, first: u32, step: Step, n: u32) -> Outcome
     requires run { IsRun run.now }
     requires block { spec.IsBelow run.now step }
@@ -114,7 +100,6 @@ fn after_number(run: &Run, first: u32, step: Step, n: u32) -> Outcome
     }
 }
 
-/// Returns what follows if the server replies with error `n`.
 fn after_error(first: u32, step: Step, n: u32) -> Outcome
     ensures { result ≡ spec.after_error first step n }
 {
@@ -125,8 +110,7 @@ fn after_error(first: u32, step: Step, n: u32) -> Outcome
     }
 }
 
-/// Returns what follows the bytes of a record. At the look the attempt continues if they are not
-/// the label of a counted volume. If they are, `counted` is that volume's number.
+/// `counted` is the number of the counted volume whose label the bytes are, if there is one.
 fn after_data(run: &Run, first: u32, step: Step, counted: Option<u32>) -> Outcome
     requires run { IsRun run.now }
     ensures { (counts : List VolumeCount) (bytes : List ℕ) → counted ≡ counted_label run.now counts bytes →
@@ -139,7 +123,6 @@ fn after_data(run: &Run, first: u32, step: Step, counted: Option<u32>) -> Outcom
     }
 }
 
-/// Returns the outcome of a reply to `step`.
 pub(crate) fn after_reply(run: &Run, first: u32, step: Step, summary: ReplySummary) -> Outcome
     requires run { IsRun run.now }
     requires block { spec.IsBelow run.now step }
@@ -163,7 +146,6 @@ pub(crate) fn after_noise(step: Step) -> Outcome
     }
 }
 
-/// Returns the outcome if the connection ends at `step`.
 pub(crate) fn after_end(step: Step) -> Outcome
     ensures { result ≡ spec.after_end step }
 {

@@ -18,8 +18,7 @@ use rmt_wire::fcntl::O_RDWR;
 use rmt_wire::{RECORD_LIMIT, Request, push_request, push_write_line};
 use std::alloc::AllocError;
 
-/// Appends the request of a step, or nothing if it fails. A block is read from the source. If the
-/// step is the label, the source's `begin_volume` is called.
+/// Appends the request of a step, or nothing if it fails.
 #[tactic(auto, using(crate::proofs::Requests::small_op, crate::proofs::Requests::pushed))]
 pub(crate) fn push_step<B: Blocks>(
     ledger: &Ledger,
@@ -47,7 +46,6 @@ pub(crate) fn push_step<B: Blocks>(
     }
 }
 
-/// Appends an open of the run's device, for reading and writing.
 fn push_open(run: &Run, out: &mut Vec<u8>) -> Result<(), AttemptFault>
     ensures { IsRequestPushed (Open run.now.device O_RDWR) (vec_capacity out.old) out.old.items result out.new.items }
 {
@@ -58,7 +56,6 @@ fn push_open(run: &Run, out: &mut Vec<u8>) -> Result<(), AttemptFault>
     push(&request, out)
 }
 
-/// Appends a read of the first record, of as many bytes as a label has.
 fn push_look(out: &mut Vec<u8>) -> Result<(), AttemptFault>
     ensures { IsRequestPushed (Read label_bytes) (vec_capacity out.old) out.old.items result out.new.items }
 {
@@ -66,7 +63,6 @@ fn push_look(out: &mut Vec<u8>) -> Result<(), AttemptFault>
     push(&Request::Read { count }, out)
 }
 
-/// Appends a write of the next volume's label, and calls the source's `begin_volume`.
 fn push_label<B: Blocks>(
     ledger: &Ledger,
     source: &mut B,
@@ -81,10 +77,7 @@ fn push_label<B: Blocks>(
     push(&Request::Write { bytes: &label }, out)
 }
 
-/// Appends a write of a block. The source reads the block into its place in `out`.
-///
-/// If the read fails, or if an allocation for the write fails, nothing is appended. In the second
-/// case the source is not read.
+/// The source reads the block into its place in `out`, after the room for the write is reserved.
 fn push_block<B: Blocks>(
     ledger: &Ledger,
     number: u32,
@@ -132,7 +125,6 @@ fn push_blank(size: usize, out: &mut Vec<u8>) -> Result<usize, AllocError>
     Ok(start)
 }
 
-/// Appends an operation of count 1.
 fn push_op(op: u32, out: &mut Vec<u8>) -> Result<(), AttemptFault>
     requires { op ≤ 7 }
     ensures { IsRequestPushed (Op op 1) (vec_capacity out.old) out.old.items result out.new.items }
@@ -140,7 +132,6 @@ fn push_op(op: u32, out: &mut Vec<u8>) -> Result<(), AttemptFault>
     push(&Request::Op { op, count: 1 }, out)
 }
 
-/// Appends a request, or nothing if an allocation fails.
 fn push(request: &Request<'_>, out: &mut Vec<u8>) -> Result<(), AttemptFault>
     requires { requests.HasSpelling (plain_request request.now) }
     ensures { IsRequestPushed (plain_request request.now) (vec_capacity out.old) out.old.items result out.new.items }

@@ -5,8 +5,6 @@ ghost use Rattle.dump_client.specs.Standing.{state_of};
 use crate::AttemptFault;
 use crate::step::Step;
 
-/// The stage of a client: between attempts, or in an attempt with a request that is to be sent or
-/// was sent.
 #[derive(Clone, Copy)]
 pub(crate) enum Stage {
     Ready,
@@ -52,14 +50,13 @@ pub enum Progress {
     Send,
     /// The attempt is over, and its volume is counted.
     Ended,
-    /// The attempt failed. Nothing more is sent on its connection.
+    /// The attempt failed.
     Failed(AttemptFault),
     /// No attempt is under way. Nothing changed.
     Idle,
 }
 
 impl Stage {
-    /// Returns the state that a caller sees.
     pub(crate) fn state(self) -> State
         ensures { result ≡ state_of self }
     {

@@ -1,8 +1,4 @@
 //! The steps of an attempt. Each is one request.
-//!
-//! The kind of a reply is a number or data.
-//!
-//! The look is the read of the reel's first record, before anything is written.
 ghost use Rattle.std.specs.Prelude.{◌≡◌};
 ghost use Rattle.rmt_wire.specs.Lent.{plain_wanted};
 ghost use Rattle.dump_client.specs.Script.{number_of, wanted_of};
@@ -11,9 +7,8 @@ use dump_run::LABEL_BYTES;
 use rmt_wire::Wanted;
 use rmt_wire::mtio::{MTOFFL, MTREW, MTWEOF};
 
-/// A tape operation (mtio) of count 1. The tape is rewound before the look at the first record, and
-/// again after it. `Mark` and `Unload` carry the first block that is not written: the volume ends
-/// before it.
+/// A tape operation (mtio) of count 1. The tape is rewound before the look, and again after it.
+/// `Mark` and `Unload` carry the first block that is not in the volume.
 #[derive(Clone, Copy, PartialEq, Eq)]
 pub(crate) enum TapeOp {
     Rewind,
@@ -23,7 +18,6 @@ pub(crate) enum TapeOp {
 }
 
 impl TapeOp {
-    /// Returns the number of the operation.
     pub(crate) fn number(self) -> u32
         ensures { result ≡ number_of self }
     {
@@ -35,7 +29,7 @@ impl TapeOp {
     }
 }
 
-/// A request of an attempt to write a volume. Blocks are numbered from 0 in the run.
+/// Blocks are numbered from 0 in the run.
 #[derive(Clone, Copy, PartialEq, Eq)]
 pub(crate) enum Step {
     Open,

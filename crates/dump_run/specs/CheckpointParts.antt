@@ -26,7 +26,8 @@ abbrev pub IsCut : ℕ → List ℕ → Option (Bor (List ℕ) × Bor (List ℕ)
 IsCut byte text None = Lacks byte text
 IsCut byte text (Some p) = Lacks byte p.0.now × (text ≡ p.0.now ++ byte ∷ p.1.now)
 
--- the text is a number in this range, without leading zeros; or none
+-- the number in this range that the text spells without leading zeros, or none if it spells no such
+-- number
 abbrev pub IsNumber : ℕ → ℕ → List ℕ → Option ℕ → Type 0
 IsNumber least most text None = (n : ℕ) → IsInRange least most n → text ≢ decimal n
 IsNumber least most text (Some n) = IsInRange least most n × (text ≡ decimal n)
@@ -52,7 +53,7 @@ abbrev pub FindsCount : List ℕ → Option (VolumeCount × Bor (List ℕ)) → 
 FindsCount bytes None = (c : VolumeCount) (more : List ℕ) → AreNumbers c → bytes ≢ count_line c ++ line_feed ∷ more
 FindsCount bytes (Some p) = AreNumbers p.0 × (bytes ≡ count_line p.0 ++ line_feed ∷ p.1.now)
 
--- the first line is the title, or it is not
+-- the bytes after the first line, if that is the title; or none
 abbrev pub FindsTitle : List ℕ → Option (Bor (List ℕ)) → Type 0
 FindsTitle bytes None = (line more : List ℕ) → IsLineOf Title line → bytes ≢ line ++ line_feed ∷ more
 FindsTitle bytes (Some rest) = bytes ≡ (codes "rdump 1") ++ line_feed ∷ rest.now

@@ -1,6 +1,6 @@
-//! The source from which the blocks of a run are read.
+//! The source of the blocks.
 
-ghost use Rattle.std.specs.Prelude.{◌≡◌, ◌↔◌, ℕ, List, Result, IsErr, length};
+ghost use Rattle.std.specs.Prelude.{◌≡◌, ◌↔◌, ℕ, List, [], Result, IsErr, get_or, length};
 ghost use Rattle.dump_run.specs.Blocks.{HasBlock, GivesBlock, counted_after};
 
 use crate::LABEL_BYTES;
@@ -21,23 +21,22 @@ pub trait Blocks {
     /// The relation of a source to its list of blocks, if that is known.
     ghost holds: { Self → List (List ℕ) → Type 0 };
 
-    /// The number of reads that have failed. It stays at the greatest `u64`.
+    /// The number of reads that have failed.
     ghost failures: { Self → ℕ };
 
     /// Whether the next read can fail. If it cannot, no read makes it able to.
     ghost can_fail: { Self → Type 0 };
 
-    /// A further guarantee of a read, for this kind of source. The arguments before the read are
-    /// the source, the number of the block and the bytes of `into`. Those after it are the result,
-    /// the source and the bytes of `into`.
+    /// A further guarantee of a read, for this kind of source. Its arguments are the source, the
+    /// block's number and the bytes of `into`, then the result, the new source and the new bytes of
+    /// `into`.
     ghost reads: { Self → ℕ → List ℕ → Result Unit SourceFailed → Self → List ℕ → Type 0 };
 
-    /// Tells the source that an attempt to write volume `volume` begins. The volume's first record
-    /// is `label`. Volume numbers start at 1. The volume's first block is `first`, counted from 0.
-    /// A source may show this, or hash the label and the blocks that it then reads. The default
-    /// does nothing. What contracts see of the source does not change.
+    /// Informs the source that an attempt to write volume `volume`, counted from 1, begins. The
+    /// volume's first record is `label`, and its first block `first`, counted from 0.
+    ///
+    /// A source may hash the label and the blocks that are then sent. The default does nothing.
     fn begin_volume(&mut self, label: &[u8; LABEL_BYTES], volume: u32, first: u32)
-        // Tells the source which volume begins. What contracts see of the source does not change.
         // No clause says that `label` is the label of volume `volume`.
         ensures { self.new ≡ self.old }
     {
@@ -50,25 +49,25 @@ pub trait Blocks {
     /// changed.
     fn read(&mut self, block: u32, into: &mut [u8]) -> Result<(), SourceFailed>
         requires { (blocks : List (List ℕ)) → holds self.old blocks → HasBlock blocks block (length into.old) }
-        // A read does not change the source's blocks.
         ensures same_blocks { (blocks : List (List ℕ)) → holds self.old blocks ↔ holds self.new blocks }
-        // If the blocks of the source are known, a successful read puts the block with the given
-        // number into `into`.
         ensures given { (blocks : List (List ℕ)) → holds self.old blocks → GivesBlock result blocks block into.new }
-        // Each failed read adds 1 to the number that `failures` returns, up to the greatest `u64`.
-        // A successful read does not change this number. `can_fail` says whether a source's next
-        // read can fail. A read fails only if `can_fail` holds. If `can_fail` does not hold before
-        // a read, it does not hold after the read.
         ensures counted { failures self.new ≡ counted_after result (failures self.old) }
         ensures able { IsErr result → can_fail self.old }
         ensures quiet { can_fail self.new → can_fail self.old }
-        // A type that implements `Blocks` can promise more about its reads. The type defines these
-        // further promises as `reads`.
         ensures read { reads self.old block into.old result self.new into.new };
+
+    /// Tells the source that the write of block `block`, which has these bytes, was sent, and that
+    /// its reply is awaited now. A source may hash the block in this time. The default does nothing.
+    fn sent(&mut self, block: u32, bytes: &[u8])
+        requires { (blocks : List (List ℕ)) → holds self.old blocks → bytes.now ≡ get_or blocks block [] }
+        // What contracts see of the source does not change.
+        ensures { self.new ≡ self.old }
+    {
+        let _ = (block, bytes.len());
+    }
 
     /// Returns the number of reads that have failed. It stays at the greatest `u64`.
     fn failures(&self) -> u64
-        // Returns how many reads of the source have failed.
         ensures { result ≡ failures self.now };
 
     /// A source has at most one list of blocks.

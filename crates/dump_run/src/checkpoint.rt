@@ -1,4 +1,4 @@
-//! A checkpoint: a run and the volumes counted so far, as a text that outlives the dumping process.
+//! Checkpoints.
 ghost use Rattle.std.specs.Prelude.{◌≡◌, List, IfOk, IfErr};
 ghost use Rattle.dump_run.specs.Run.{IsRun};
 ghost use Rattle.dump_run.specs.Counts.{AreVolumes};
@@ -40,24 +40,12 @@ impl Model for Checkpoint {
 }
 
 impl Checkpoint {
-    /// Reads the text of a checkpoint, as `push_checkpoint` writes it. Lines are counted from 1.
+    /// Reads the text of a checkpoint, as `push_checkpoint` writes it.
     ///
-    /// Errors:
-    /// - `BadLine(n)`: line `n` is the first that does not have its form, breaks a limit, or is
-    ///   missing. The limits are those of `Run::new`. The numbers of a count are 0 to
-    ///   `BLOCKS_LIMIT`.
-    /// - `NotInOrder(n)`: all lines have their form, and the count on line `n` is the first that
-    ///   does not follow those before it.
-    /// - `OutOfMemory`: an allocation for the counts fails.
+    /// `ResumeFault` describes the errors. The limits are those of `Run::new`, and the numbers of a
+    /// count are 0 to `BLOCKS_LIMIT`. Only an allocation for the counts can fail.
     pub fn read(alloc: Global, bytes: &[u8]) -> Result<Checkpoint, ResumeFault>
-        // Returns the run and the counts of a checkpoint's text. All values are within their
-        // limits, and the counts are in order. The given bytes are exactly the text of this run and
-        // these counts.
         ensures spelled { IfOk result (λ c. SpellsCheckpoint bytes.now c.run c.counts) }
-        // If a line is bad, the call returns the number of the first bad line. A line is bad if its
-        // form is wrong, or if a value is outside its limits. A missing line is bad too. If all
-        // lines are good, but the counts are not in order, the call returns the line number of the
-        // first count that breaks the order. The only other error is `OutOfMemory`.
         ensures refused { IfErr result (HasResumeFault bytes.now) }
     {
         let (run, rest) = read_head(bytes)?;
@@ -71,8 +59,7 @@ impl Checkpoint {
 
     /// Returns the run.
     pub fn run(&self) -> &Run
-        // Returns the run of the checkpoint. The types allow no other body, so no wrong body is
-        // tried.
+        // The types allow no other body, so no wrong body is tried.
         ensures { result.now ≡ self.now.run }
     {
         &self.run
@@ -80,7 +67,6 @@ impl Checkpoint {
 
     /// Returns the counted volumes, in order from volume 1.
     pub fn counts(&self) -> &[VolumeCount]
-        // Returns the counts of the checkpoint, which are in order from volume 1.
         ensures told { result.now ≡ self.now.counts }
         ensures in_order { AreVolumes self.now.run 1 0 self.now.counts }
     {
@@ -89,8 +75,6 @@ impl Checkpoint {
 
     /// Returns the run and the counted volumes.
     pub fn into_parts(self) -> (Run, Vec<VolumeCount>)
-        // Returns the run and the counts. The run is within its limits. The counts are in order
-        // from volume 1.
         ensures run { result.0 ≡ self.run }
         ensures limits { IsRun self.run }
         ensures counts { result.1.items ≡ self.counts }
@@ -101,16 +85,10 @@ impl Checkpoint {
 }
 
 impl Run {
-    /// Reads the text of a checkpoint, and returns only the run.
-    ///
-    /// It reads the counts too and frees them. Its errors are those of `Checkpoint::read`, under
-    /// the same conditions.
+    /// Reads the text of a checkpoint, and returns only the run. Reads the counts too, and fails as
+    /// `Checkpoint::read` does.
     pub fn spelled(alloc: Global, bytes: &[u8]) -> Result<Run, ResumeFault>
-        // Returns the run that the text of a checkpoint contains. The call also checks that the
-        // counts in the text are in order.
         ensures spelled { IfOk result (λ run. (counts : List VolumeCount) × SpellsCheckpoint bytes.now run counts) }
-        // If a line is bad or the counts are not in order, the call returns the same line number as
-        // `Checkpoint::read`. The only other error is `OutOfMemory`.
         ensures refused { IfErr result (HasResumeFault bytes.now) }
     {
         let checkpoint = Checkpoint::read(alloc, bytes)?;

@@ -1,4 +1,4 @@
-//! The identity of a dump: the values that its run and the labels of its volumes share.
+//! The identity of a dump.
 
 ghost use Rattle.std.specs.Prelude.{◌≡◌, ◌≤◌, ◌↔◌, IfSome, IsSome, IsTrue, IsUtf8};
 ghost use Rattle.dumpdates.specs.Entry.{IsName, last_second};
@@ -9,8 +9,8 @@ use crate::run::LAST_LEVEL;
 use dumpdates::{LAST_SECOND, is_name};
 use std::marker::Model;
 
-/// The identity of a dump: the name of the file system, the level and the two dates. It allocates
-/// nothing.
+/// The identity of a dump: the name of the file system, the level and the two dates. A run and the
+/// labels of its volumes share it. It allocates nothing.
 #[derive(Drop)]
 pub struct DumpId {
     name: Row,
@@ -37,9 +37,7 @@ impl DumpId {
     /// date 0 to `dumpdates::LAST_SECOND`. `since` is the date of the dump that this one builds on,
     /// or 0 if there is none.
     pub fn new(name: &str, level: u8, date: u64, since: u64) -> Option<DumpId>
-        // If the call returns an id, the id has the given values.
         ensures made { IfSome result (λ d. d ≡ plain_id name.now level date since) }
-        // The call returns an id if and only if each value is within its limits.
         ensures limits { IsSome result ↔ IsDumpId (plain_id name.now level date since) }
     {
         let level = u64::from(level);
@@ -52,8 +50,7 @@ impl DumpId {
         Some(DumpId::from_parts(name.as_bytes(), level, date, since))
     }
 
-    /// Makes an id of parts that are within the limits. `base` is the date of the dump that this
-    /// one builds on.
+    /// `base` is the date of the dump that this one builds on.
     pub(crate) fn from_parts(name: &[u8], level: u64, date: u64, base: u64) -> DumpId
         requires limits { IsDumpId (plain_id name.now level date base) }
         requires text { IsUtf8 name.now }
@@ -69,7 +66,6 @@ impl DumpId {
 
     /// Returns a copy of the id. It allocates nothing.
     pub fn copy(&self) -> DumpId
-        // Returns an id with the same values.
         ensures { result ≡ self.now }
     {
         DumpId {
@@ -82,7 +78,6 @@ impl DumpId {
 
     /// Returns whether two ids are of the same dump: they have the same name, level and dates.
     pub fn is_same(&self, other: &DumpId) -> bool
-        // Returns whether two ids have the same name, level and dates.
         ensures { IsTrue result ↔ AreOneId self.now other.now }
     {
         self.name() == other.name()
@@ -93,8 +88,6 @@ impl DumpId {
 
     /// Returns the name of the file system: 1 to 255 bytes of printable ASCII without a space.
     pub fn name(&self) -> &str
-        // Returns the name of the file system in the id: 1 to 255 bytes of printable ASCII without
-        // a space.
         ensures told { result.now ≡ self.now.name }
         ensures limits { IsName self.now.name }
     {
@@ -103,7 +96,6 @@ impl DumpId {
 
     /// Returns the level, 0 to 9.
     pub fn level(&self) -> u8
-        // Returns the level in the id, at most 9.
         ensures told { result ≡ self.now.level }
         ensures limit { self.now.level ≤ 9 }
     {
@@ -112,17 +104,15 @@ impl DumpId {
 
     /// Returns the date of the dump, in seconds since the beginning of 1970 (UTC).
     pub fn date(&self) -> u64
-        // Returns the date in the id, at most 253402300799.
         ensures told { result ≡ self.now.date }
         ensures limit { self.now.date ≤ last_second }
     {
         self.date
     }
 
-    /// Returns the date of the earlier dump that this dump builds on: seconds since the beginning
-    /// of 1970 (UTC), or 0 if there is no earlier dump.
+    /// Returns the date of the lower-level dump that this one builds on, in seconds since the
+    /// beginning of 1970 (UTC), or 0 if there is none.
     pub fn since(&self) -> u64
-        // Returns the date that the id has for the earlier dump, at most 253402300799.
         ensures told { result ≡ self.now.since }
         ensures limit { self.now.since ≤ last_second }
     {

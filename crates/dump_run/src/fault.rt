@@ -1,4 +1,4 @@
-//! Why `Run::new` refuses a run, and why bytes are not a checkpoint.
+//! The errors of runs and checkpoints.
 
 use thiserror::Error;
 

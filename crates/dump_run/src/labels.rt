@@ -10,7 +10,6 @@ use crate::lines::TextLines;
 /// The size of a label in bytes.
 pub const LABEL_BYTES: usize = 1024;
 
-/// Returns the lines of the label of volume `volume`, which begins at block `first`.
 #[tactic(auto, using(std::proofs::Common::append_assoc))]
 fn lines_of(run: &Run, volume: u32, first: u32) -> TextLines
     ensures { result ≡ label_lines run.now volume first }
@@ -30,7 +29,6 @@ fn lines_of(run: &Run, volume: u32, first: u32) -> TextLines
 ///
 /// `volume` is counted from 1 and `first` from 0. It allocates nothing.
 pub fn label(run: &Run, volume: u32, first: u32) -> [u8; LABEL_BYTES]
-    // Returns the label of a volume: six lines, padded with zero bytes to 1,024 bytes.
     ensures { result ≡ labels.label run.now volume first }
 {
     lines_of(run, volume, first).into_bytes()

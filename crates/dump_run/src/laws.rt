@@ -9,31 +9,22 @@ ghost use Rattle.dump_run.specs.declared.count.VolumeCount.{VolumeCount};
 ghost use Rattle.dump_run.specs.declared.fault.ResumeFault.{ResumeFault};
 ghost use Rattle.dump_run.specs.declared.fault.ResumeFault.TheVariants.{OutOfMemory};
 
-/// A checkpoint's text determines the checkpoint's run and counts. No line of such a text is bad,
-/// so reading it fails only if out of memory.
-///
-/// The function does nothing: its contract is a law of the definitions.
+/// A checkpoint's text determines its run and counts. Reading such a text fails only with
+/// `OutOfMemory`.
 pub fn one_checkpoint()
-    // A checkpoint's text determines the run and the counts: no other checkpoint has the same text.
     ensures run { (bytes : List ℕ) (r s : PlainRun) (counts others : List VolumeCount) → SpellsCheckpoint bytes r counts →
         SpellsCheckpoint bytes s others → r ≡ s }
     ensures counts { (bytes : List ℕ) (r s : PlainRun) (counts others : List VolumeCount) → SpellsCheckpoint bytes r counts →
         SpellsCheckpoint bytes s others → counts ≡ others }
-    // Reading the text of a checkpoint fails only with `OutOfMemory`.
     ensures fault { (bytes : List ℕ) (r : PlainRun) (counts : List VolumeCount) (fault : ResumeFault) →
         SpellsCheckpoint bytes r counts → HasResumeFault bytes fault → fault ≡ OutOfMemory }
 {}
 
 /// Two labels with different values are different records. The label of each volume of a run is
 /// valid, and contains the run's and the volume's values.
-///
-/// The function does nothing: its contract is a law of the definitions.
 #[tactic(auto, using(crate::proofs::LabelReading::one_record))]
 pub fn one_label()
-    // Two labels with different values are different records.
     ensures one { (l m : PlainLabel) → IsLabel l → IsLabel m → label_record l ≡ label_record m → l ≡ m }
-    // The label of a volume contains the values of the run and of the volume. If these values are
-    // within their limits, all values in the label are within their limits.
     ensures lawful { (run : PlainRun) (volume first : ℕ) → IsRun run → IsInRange 1 blocks_limit volume → first ≤ blocks_limit →
         IsLabel (label_of run volume first) }
     ensures same { (run : PlainRun) (volume first : ℕ) → label run volume first ≡ label_record (label_of run volume first) }

@@ -10,7 +10,7 @@ use std::marker::Model;
 /// The greatest number in a line: twelve digits.
 const LINE_NUMBER_LIMIT: u64 = 999_999_999_999;
 
-// The lines of a text so far, with zero bytes up to `LABEL_BYTES` after them. It allocates nothing.
+// The lines of a text so far, with zero bytes up to `LABEL_BYTES` after them.
 #[derive(Drop)]
 pub(crate) struct TextLines {
     bytes: [u8; LABEL_BYTES],
@@ -29,7 +29,6 @@ impl Model for TextLines {
 }
 
 impl TextLines {
-    /// Makes a text of no lines.
     pub(crate) fn new() -> TextLines
         ensures { result ≡ [] }
     {
@@ -39,7 +38,6 @@ impl TextLines {
         }
     }
 
-    // Appends `text`.
     pub(crate) fn push(&mut self, text: &[u8])
         requires { length self.old + length text.now ≤ label_bytes }
         ensures text { self.new ≡ self.old ++ text.now }
@@ -50,7 +48,6 @@ impl TextLines {
         self.end = end;
     }
 
-    // Appends the decimal digits of a number.
     #[tactic(auto, using(crate::proofs::LabelText::line_number_is_short))]
     pub(crate) fn push_digits(&mut self, number: u64)
         requires limit { number ≤ LINE_NUMBER_LIMIT }
@@ -62,7 +59,6 @@ impl TextLines {
         self.push(digits.format(number).as_bytes());
     }
 
-    // Appends a line of a keyword, a space and a text.
     #[tactic(auto, using(std::proofs::Common::append_assoc))]
     pub(crate) fn push_line(&mut self, word: &str, text: &[u8])
         requires { length self.old + length word.now + length text.now + 2 ≤ label_bytes }
@@ -75,7 +71,6 @@ impl TextLines {
         self.push(b"\n");
     }
 
-    // Appends a line of a keyword, a space and a number.
     #[tactic(auto, using(crate::proofs::LabelText::line_number_is_short))]
     pub(crate) fn push_number(&mut self, word: &str, number: u64)
         requires limit { number ≤ LINE_NUMBER_LIMIT }
@@ -87,7 +82,6 @@ impl TextLines {
         self.push_line(word, digits.format(number).as_bytes());
     }
 
-    /// Returns the bytes of the lines.
     pub(crate) fn as_slice(&self) -> &[u8]
         ensures { result.now ≡ self.now }
     {

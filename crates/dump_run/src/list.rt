@@ -8,9 +8,8 @@ use crate::{Blocks, SourceFailed};
 use std::alloc::AllocError;
 use std::marker::Model;
 
-/// A payload in memory, as blocks of one size. Its reads can be made to fail.
-///
-/// Its list of blocks is always known.
+/// A payload in memory, as blocks of one size. Its reads can be made to fail. Its list of blocks is
+/// always known.
 #[derive(Drop)]
 pub struct ListBlocks {
     payload: Vec<u8>,
@@ -38,8 +37,6 @@ impl ListBlocks {
     #[tactic(auto, using(crate::proofs::Cut::length_cut, crate::proofs::Cut::size_cut))]
     pub fn new(payload: Vec<u8>, block_bytes: usize, blocks: u32) -> ListBlocks
         requires { length payload.items ≡ blocks * block_bytes }
-        // Returns a source in memory that has the given payload, cut into blocks of the given size.
-        // Reads of the source do not fail, and no read has failed yet.
         ensures listed { result ≡ listed (cut_blocks blocks block_bytes payload.items) false 0 }
         ensures blocks { length result.blocks ≡ blocks }
         ensures sizes { (n : ℕ) → n < blocks → length (get_or result.blocks n []) ≡ block_bytes }
@@ -55,13 +52,11 @@ impl ListBlocks {
 
     /// Sets whether reads of the source fail, until the next call of `trouble`.
     pub fn trouble(&mut self, fails: bool)
-        // Sets whether reads of the source fail from now on. The call changes nothing else.
         ensures { self.new ≡ listed self.old.blocks fails self.old.failures }
     {
         self.troubled = fails;
     }
 
-    // Returns the bytes of block `block`.
     #[tactic(auto, using(crate::proofs::Cut::length_cut, crate::proofs::Cut::block_at, crate::proofs::Cut::block_within))]
     fn part(&self, block: u32) -> &[u8]
         requires { block < length self.now.blocks }
@@ -73,13 +68,8 @@ impl ListBlocks {
 }
 
 impl Clone for ListBlocks {
-    // Returns a copy with the same blocks and the same number of failures. If reads of the source
-    // fail, reads of the copy fail too.
-
     /// Returns a copy with the same payload, the same injected fault and the same number of
-    /// failures.
-    ///
-    /// Fails only if an allocation fails.
+    /// failures. Fails only if an allocation fails.
     fn clone(&self) -> Result<ListBlocks, AllocError>
         ensures { IfOk result (λ b. b ≡ self.now) }
     {
@@ -94,12 +84,6 @@ impl Clone for ListBlocks {
 }
 
 impl Blocks for ListBlocks {
-    // read: A read fails if and only if the source is set to fail reads (`ListBlocks::trouble`). A
-    // failed read changes only the number of failures.
-    //
-    // same_blocks, failures: A read does not change the blocks. `failures` returns how many reads
-    // have failed.
-
     ghost holds = { AreBlocksOf };
 
     ghost failures = { λ s. s.failures };

@@ -1,11 +1,10 @@
-//! A short text in an array of fixed size.
+//! A short text in an array of `LINE_LIMIT` bytes.
 
 ghost use Rattle.std.specs.Prelude.{◌≡◌, ◌≤◌, length};
 
 use rmt_wire::LINE_LIMIT;
 use std::marker::Model;
 
-// A text of at most `LINE_LIMIT` bytes, which are 255. It allocates nothing.
 #[derive(Drop)]
 pub(crate) struct Row {
     bytes: [u8; LINE_LIMIT],
@@ -23,7 +22,6 @@ impl Model for Row {
 }
 
 impl Row {
-    /// Makes a row of these bytes, at most 255.
     pub(crate) fn new(text: &[u8]) -> Row
         requires { length text.now ≤ 255 }
         ensures { result ≡ text.now }
@@ -36,7 +34,6 @@ impl Row {
         }
     }
 
-    /// Returns the bytes of the row.
     pub(crate) fn as_slice(&self) -> &[u8]
         ensures { result.now ≡ self.now }
     {

@@ -1,4 +1,4 @@
-//! A run: what is dumped, to which drive, and in how many blocks.
+//! A run.
 
 ghost use Rattle.std.specs.Prelude.{◌≡◌, ℕ, ◌≤◌, ◌↔◌, List, IsTrue, IfOk, Ok};
 ghost use Rattle.dumpdates.specs.Entry.{IsName, last_second};
@@ -15,12 +15,9 @@ use std::marker::Model;
 /// The greatest number of blocks in a run.
 pub const BLOCKS_LIMIT: u32 = NUMBER_LIMIT;
 
-/// The greatest level of a dump.
 pub(crate) const LAST_LEVEL: u64 = 9;
 
-/// The parameters of a dump (dump(8)): the drive, the file system, the level, two dates, and the
-/// size and number of the blocks. The dates are those of this dump and of the lower-level dump that
-/// it builds on. The texts are in arrays of fixed size, so that a run allocates nothing.
+/// The parameters of a dump (dump(8)). A run allocates nothing.
 #[derive(Drop)]
 pub struct Run {
     device: Row,
@@ -40,8 +37,6 @@ impl Model for Run {
 }
 
 impl Clone for Run {
-    // clone: Returns a copy of the run, and never fails.
-
     /// Returns a copy of the run. It allocates nothing, and never fails.
     fn clone(&self) -> Result<Run, AllocError>
         ensures { result ≡ Ok self.now }
@@ -55,7 +50,6 @@ impl Clone for Run {
     }
 }
 
-/// Whether the bytes are a device: 1 to 255 bytes without a line feed.
 #[tactic(auto, using(std::proofs::lemmas::Grind::elements))]
 pub(crate) fn is_device(device: &[u8]) -> bool
     ensures { IsTrue result ↔ IsDevice device.now }
@@ -63,8 +57,6 @@ pub(crate) fn is_device(device: &[u8]) -> bool
     !device.is_empty() && device.len() <= LINE_LIMIT && device.iter().all(|b| *b != b'\n')
 }
 
-/// Checks the numbers of a run. Returns the fault of the first limit that is broken, in the order
-/// of `RunFault`.
 fn check_numbers(
     level: u64,
     date: u64,
@@ -97,11 +89,11 @@ impl Run {
     /// - `fs`: 1 to 255 bytes of printable ASCII without a space.
     /// - `level`: 0 to 9.
     /// - `date`, `since`: in seconds since 1970 began, UTC, up to `dumpdates::LAST_SECOND`. `since`
-    ///   is the date of the dump that this one builds on, or 0 if there is none.
+    ///   is the date of the lower-level dump that this one builds on, or 0.
     /// - `block_bytes`: the size of a block, 1 to `rmt_wire::RECORD_LIMIT` bytes.
     /// - `blocks`: the number of blocks, up to `BLOCKS_LIMIT`.
     ///
-    /// Returns the fault of the first of these limits that is broken, in the order of `RunFault`.
+    /// Returns the first of these limits that is broken, in the order of `RunFault`.
     #[tactic(auto, using(crate::proofs::Limits::id_of_run))]
     pub fn new(
         device: &[u8],
@@ -112,9 +104,6 @@ impl Run {
         block_bytes: u64,
         blocks: u64,
     ) -> Result<Run, RunFault>
-        // If all given values are within their limits, the call returns a run with these values.
-        // Otherwise the call returns the fault for the first broken limit, in the order of the
-        // variants of `RunFault`.
         ensures run { IsRunOf (plain_run device.now fs.now level date since block_bytes blocks) result }
         ensures limits { IfOk result IsRun }
     {
@@ -129,7 +118,6 @@ impl Run {
         Ok(Run::from_parts(device, id, block_bytes, blocks))
     }
 
-    /// Makes a run of parts that are within the limits.
     #[tactic(auto, using(crate::proofs::Limits::number_of_run))]
     pub(crate) fn from_parts(device: &[u8], id: DumpId, block_bytes: u64, blocks: u64) -> Run
         requires { IsRun (plain_run device.now id.name id.level id.date id.since block_bytes blocks) }
@@ -143,11 +131,9 @@ impl Run {
         }
     }
 
-    /// Returns whether two runs are of the same dump: they have the same device, name, level, block
-    /// size and number of blocks. The dates may differ.
+    /// Returns whether two runs have the same device, name, level, block size and number of blocks.
+    /// The dates may differ.
     pub fn is_same_dump(&self, other: &Run) -> bool
-        // Returns whether two runs have the same device, name, level, block size and number of
-        // blocks. Their dates can differ.
         ensures { IsTrue result ↔ AreOfOneDump self.now other.now }
     {
         self.device() == other.device()
@@ -159,8 +145,7 @@ impl Run {
 
     /// Returns the identity of the dump.
     pub fn id(&self) -> &DumpId
-        // Returns the name, the level and the dates of the run. The types allow no other body, so
-        // no wrong body is tried.
+        // The types allow no other body, so no wrong body is tried.
         ensures { result.now ≡ id_of_run self.now }
     {
         &self.id
@@ -168,7 +153,6 @@ impl Run {
 
     /// Returns the device: 1 to 255 bytes without a line feed.
     pub fn device(&self) -> &[u8]
-        // Returns the device of the run: 1 to 255 bytes without a line feed.
         ensures told { result.now ≡ self.now.device }
         ensures limits { IsDevice self.now.device }
     {
@@ -177,8 +161,6 @@ impl Run {
 
     /// Returns the name of the file system: 1 to 255 bytes of printable ASCII without a space.
     pub fn name(&self) -> &str
-        // Returns the name of the run's file system: 1 to 255 bytes of printable ASCII without a
-        // space.
         ensures told { result.now ≡ self.now.name }
         ensures limits { IsName self.now.name }
     {
@@ -187,7 +169,6 @@ impl Run {
 
     /// Returns the level, 0 to 9.
     pub fn level(&self) -> u8
-        // Returns the level of the run, at most 9.
         ensures told { result ≡ self.now.level }
         ensures limit { self.now.level ≤ 9 }
     {
@@ -196,17 +177,15 @@ impl Run {
 
     /// Returns the date of this dump, in seconds since the beginning of 1970 (UTC).
     pub fn date(&self) -> u64
-        // Returns the date of the run, at most 253402300799.
         ensures told { result ≡ self.now.date }
         ensures limit { self.now.date ≤ last_second }
     {
         self.id.date()
     }
 
-    /// Returns the date of the earlier dump that this dump builds on: seconds since the beginning
-    /// of 1970 (UTC), or 0 if there is no earlier dump.
+    /// Returns the date of the lower-level dump that this one builds on, in seconds since the
+    /// beginning of 1970 (UTC), or 0 if there is none.
     pub fn since(&self) -> u64
-        // Returns the date of the earlier dump that the run builds on, at most 253402300799.
         ensures told { result ≡ self.now.since }
         ensures limit { self.now.since ≤ last_second }
     {
@@ -215,7 +194,6 @@ impl Run {
 
     /// Returns the size of a block in bytes, 1 to `RECORD_LIMIT`.
     pub fn block_bytes(&self) -> usize
-        // Returns the size of a block of the run: 1 to 262,144 bytes.
         ensures told { result ≡ self.now.block_bytes }
         ensures limits { IsBlockSize self.now.block_bytes }
     {
@@ -224,7 +202,6 @@ impl Run {
 
     /// Returns the number of blocks, up to `BLOCKS_LIMIT`.
     pub fn blocks(&self) -> u32
-        // Returns the number of blocks of the run, at most 2147483647.
         ensures told { result ≡ self.now.blocks }
         ensures limit { self.now.blocks ≤ BLOCKS_LIMIT }
     {

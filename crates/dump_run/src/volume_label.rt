@@ -1,4 +1,4 @@
-//! The label of a volume, as read from a reel.
+//! The contents of labels.
 
 ghost use Rattle.std.specs.Prelude.{◌≡◌, ◌≤◌, ◌↔◌, IfSome, IsSome, IsTrue, length, replicate};
 ghost use Rattle.std.specs.Int.{IsInRange};
@@ -14,7 +14,6 @@ use crate::run::{BLOCKS_LIMIT, LAST_LEVEL};
 use dumpdates::{LAST_SECOND, is_name};
 use std::marker::Model;
 
-/// The greatest number of a volume, and of a block.
 const LAST_NUMBER: u64 = BLOCKS_LIMIT as u64;
 
 /// The contents of a label: the name, level and dates of the dump, the volume's number, and its
@@ -39,12 +38,9 @@ impl Model for VolumeLabel {
 impl VolumeLabel {
     /// Reads a record as a label. Returns None if it is no label.
     ///
-    /// A label has 1024 bytes: six lines as `label` writes them, then zero bytes. The name, level
-    /// and dates are within the limits of a run. The volume is 1 to `BLOCKS_LIMIT`, and its first
-    /// block 0 to `BLOCKS_LIMIT`.
+    /// A label has 1024 bytes: six lines as `label` writes them, then zero bytes. Its values are
+    /// within the limits of `new`.
     pub fn read(bytes: &[u8]) -> Option<VolumeLabel>
-        // Returns the label that a record contains, or `None` if the record is not a label. The
-        // label's values are within the limits of a run, and the volume's number is at least 1.
         ensures { ReadsLabel bytes.now result }
     {
         if bytes.len() != LABEL_BYTES {
@@ -59,9 +55,8 @@ impl VolumeLabel {
 
     /// Makes a label with the given values. Returns None if a part breaks its limit.
     ///
-    /// The name is 1 to 255 bytes of printable ASCII without a space, the level 0 to 9, and each
-    /// date 0 to `dumpdates::LAST_SECOND`. The volume is 1 to `BLOCKS_LIMIT`, and its first block 0
-    /// to `BLOCKS_LIMIT`.
+    /// The limits of the name, level and dates are those of `DumpId::new`. The volume is 1 to
+    /// `BLOCKS_LIMIT`, and its first block 0 to `BLOCKS_LIMIT`.
     pub fn new(
         name: &str,
         level: u8,
@@ -70,9 +65,7 @@ impl VolumeLabel {
         volume: u32,
         first: u32,
     ) -> Option<VolumeLabel>
-        // If the call returns a label, the label has the given values.
         ensures made { IfSome result (λ l. l ≡ plain_label name.now level date since volume first) }
-        // The call returns a label if and only if each value is within its limits.
         ensures limits { IsSome result ↔ IsLabel (plain_label name.now level date since volume first) }
     {
         let (level, volume, first) = (u64::from(level), u64::from(volume), u64::from(first));
@@ -86,7 +79,6 @@ impl VolumeLabel {
         Some(VolumeLabel::from_parts(id, volume, first))
     }
 
-    /// Makes a label of parts that are within the limits.
     fn from_parts(id: DumpId, volume: u64, first: u64) -> VolumeLabel
         requires { IsLabel (plain_label id.name id.level id.date id.since volume first) }
         ensures { result ≡ plain_label id.name id.level id.date id.since volume first }
@@ -98,10 +90,8 @@ impl VolumeLabel {
         }
     }
 
-    /// Returns whether two labels are of the same dump: they have the same name, level and dates.
-    /// The volumes may differ.
+    /// Returns whether two labels have the same name, level and dates.
     pub fn is_same_dump(&self, other: &VolumeLabel) -> bool
-        // Returns whether two labels have the same name, level and dates.
         ensures { IsTrue result ↔ AreLabelsOfOneDump self.now other.now }
     {
         self.id.is_same(&other.id)
@@ -109,17 +99,14 @@ impl VolumeLabel {
 
     /// Returns the identity of the dump.
     pub fn id(&self) -> &DumpId
-        // Returns the name, the level and the dates in the label. The types allow no other body, so
-        // no wrong body is tried.
+        // The types allow no other body, so no wrong body is tried.
         ensures { result.now ≡ id_of self.now }
     {
         &self.id
     }
 
-    /// Returns the name of the file system: 1 to 255 bytes of printable ASCII without a space.
+    /// Returns the name of the file system, as `DumpId::name` does.
     pub fn name(&self) -> &str
-        // Returns the file system's name in the label: 1 to 255 bytes of printable ASCII without a
-        // space.
         ensures told { result.now ≡ self.now.name }
         ensures limits { IsName self.now.name }
     {
@@ -128,26 +115,22 @@ impl VolumeLabel {
 
     /// Returns the level, 0 to 9.
     pub fn level(&self) -> u8
-        // Returns the level in the label, at most 9.
         ensures told { result ≡ self.now.level }
         ensures limit { self.now.level ≤ 9 }
     {
         self.id.level()
     }
 
-    /// Returns the date of the dump, in seconds since the beginning of 1970 (UTC).
+    /// Returns the date of the dump, as `DumpId::date` does.
     pub fn date(&self) -> u64
-        // Returns the date that the label has for the dump, at most 253402300799.
         ensures told { result ≡ self.now.date }
         ensures limit { self.now.date ≤ last_second }
     {
         self.id.date()
     }
 
-    /// Returns the date of the earlier dump that this dump builds on: seconds since the beginning
-    /// of 1970 (UTC), or 0 if there is no earlier dump.
+    /// Returns the date of the dump that this one builds on, as `DumpId::since` does.
     pub fn since(&self) -> u64
-        // Returns the date that the label has for the earlier dump, at most 253402300799.
         ensures told { result ≡ self.now.since }
         ensures limit { self.now.since ≤ last_second }
     {
@@ -156,7 +139,6 @@ impl VolumeLabel {
 
     /// Returns the number of the volume: 1 to `BLOCKS_LIMIT`.
     pub fn volume(&self) -> u32
-        // Returns the number of the volume: 1 to 2147483647.
         ensures told { result ≡ self.now.volume }
         ensures limits { IsInRange 1 blocks_limit self.now.volume }
     {
@@ -165,7 +147,6 @@ impl VolumeLabel {
 
     /// Returns the number of the volume's first block: 0 to `BLOCKS_LIMIT`.
     pub fn first(&self) -> u32
-        // Returns the number of the volume's first block: 0 to 2147483647.
         ensures told { result ≡ self.now.first }
         ensures limit { self.now.first ≤ blocks_limit }
     {
@@ -173,8 +154,6 @@ impl VolumeLabel {
     }
 }
 
-/// Reads the lines of a label at the beginning of `bytes`, and returns it with the bytes after
-/// them. Returns None if they are not the lines of a label.
 fn first_lines(bytes: &[u8]) -> Option<(VolumeLabel, &[u8])>
     ensures { FindsLabel bytes.now result }
 {
@@ -189,7 +168,6 @@ fn first_lines(bytes: &[u8]) -> Option<(VolumeLabel, &[u8])>
     Some((label, rest))
 }
 
-/// Whether all bytes are zero.
 fn are_zeros(bytes: &[u8]) -> bool
     ensures { IsTrue result ↔ (bytes.now ≡ replicate (length bytes.now) 0) }
 {

@@ -19,9 +19,6 @@ pub const DATE_TEXT_BYTES: usize = 24;
 /// The date is in seconds since 1970 began. Returns None if it is above `LAST_SECOND`. Allocates
 /// nothing.
 pub fn date_text(date: u64) -> Option<ArrayString<DATE_TEXT_BYTES>>
-    // Returns the text of a date, as ctime(3) prints it, without the line feed. Each date up to
-    // `LAST_SECOND` (253402300799) has a text. For a later date the call returns `None`. The lines
-    // of a dumpdates file contain dates in the same form. Tests: `dates_as_texts` in `dump_tests`.
     ensures given { IsSome result ↔ (date ≤ last_second) }
     ensures text { IfSome result (λ text. text.bytes ≡ spec.ctime_text date) }
 {
@@ -31,7 +28,6 @@ pub fn date_text(date: u64) -> Option<ArrayString<DATE_TEXT_BYTES>>
     Some(ctime(date))
 }
 
-/// Returns the text of a date up to `LAST_SECOND`.
 #[tactic(auto, using(crate::proofs::Writing::year_digits, std::proofs::Common::append_assoc), unfolding(crate::specs::Text::ctime_text))]
 pub(crate) fn ctime(date: u64) -> ArrayString<DATE_TEXT_BYTES>
     requires { date ≤ LAST_SECOND }
@@ -44,7 +40,6 @@ pub(crate) fn ctime(date: u64) -> ArrayString<DATE_TEXT_BYTES>
     text
 }
 
-/// Returns the weekday of a date, the month and the day, each with a space after it.
 #[tactic(auto, using(std::proofs::Common::append_assoc))]
 fn day_words(date: u64, moment: Moment) -> ArrayString<DATE_TEXT_BYTES>
     requires { IsMoment (plain_moment moment) }
@@ -61,7 +56,6 @@ fn day_words(date: u64, moment: Moment) -> ArrayString<DATE_TEXT_BYTES>
     text
 }
 
-/// Appends the time of day as hh:mm:ss, and a space.
 #[tactic(auto, using(std::proofs::Common::append_assoc))]
 fn push_time(text: &mut ArrayString<DATE_TEXT_BYTES>, moment: Moment)
     requires moment { IsMoment (plain_moment moment) }
@@ -105,7 +99,6 @@ pub(crate) fn push_two(text: &mut ArrayString<DATE_TEXT_BYTES>, number: u8)
     push_number(text, u16::from(number % 10));
 }
 
-/// Appends a number in decimal.
 pub(crate) fn push_number(text: &mut ArrayString<DATE_TEXT_BYTES>, number: u16)
     requires { length text.old.bytes + length (decimal number) ≤ DATE_TEXT_BYTES }
     ensures text { text.new.bytes ≡ text.old.bytes ++ decimal number }

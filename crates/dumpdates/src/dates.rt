@@ -16,9 +16,7 @@ use crate::{DatesFault, Entry};
 use std::alloc::Global;
 use std::marker::Model;
 
-/// The entries of dumpdates, in the order of their lines.
-///
-/// Contracts see the list of entries.
+/// The entries of dumpdates, in the order of their lines. Contracts see the list of entries.
 #[derive(Drop)]
 pub struct Dates {
     alloc: Global,
@@ -38,7 +36,6 @@ impl Model for Dates {
 impl Dates {
     /// Returns a list without entries. Allocates nothing.
     pub fn new(alloc: Global) -> Dates
-        // Returns an empty list of entries.
         ensures { result ≡ [] }
     {
         Dates {
@@ -59,19 +56,9 @@ impl Dates {
     /// Fails with `BadLine` or `BadDate` and the number of the first bad line, counted from 1.
     /// Fails with `OutOfMemory` if an allocation for an entry fails and no line up to it is bad.
     pub fn read(alloc: Global, bytes: &[u8]) -> Result<Dates, DatesFault>
-        // Returns one entry for each line that is not blank, in the order of the lines. The call
-        // keeps duplicates.
         ensures spelled { IfOk result (λ dates. SpellsDates bytes.now dates) }
-        // If the bytes spell a list of entries, the call returns exactly these entries, or
-        // `OutOfMemory`.
         ensures only { (entries : List DatesEntry) → SpellsDates bytes.now entries →
             MatchResult result (λ dates. dates ≡ entries) (λ fault. fault ≡ OutOfMemory) }
-        // If a line is bad, the call returns the number of the first bad line, as `BadLine` or
-        // `BadDate`. `BadLine` means that the line does not have the form of an entry. `BadDate`
-        // means that the line has this form, but an invalid date.
-        //
-        // If an allocation fails, the call returns `OutOfMemory`. The call allocates only when it
-        // reaches a line with an entry.
         ensures fault { IfErr result (λ fault. HasDatesFault bytes.now fault) }
     {
         let mut entries = Vec::new(alloc);
@@ -95,11 +82,8 @@ impl Dates {
     /// Fails with `OutOfMemory` if an allocation fails. Without entries it allocates nothing.
     #[tactic(auto, using(crate::proofs::Entering::stored_entries, crate::proofs::Lined::written_spells))]
     pub fn text(&self) -> Result<Vec<u8>, DatesFault>
-        // Returns the text of a dumpdates file with the entries of the list. Reading this text
-        // returns the same list, or `OutOfMemory`.
         ensures written { IfOk result (λ text. text.items ≡ written self.now) }
         ensures spelled { IfOk result (λ text. SpellsDates text.items self.now) }
-        // If the call fails, the error is `OutOfMemory`. For an empty list the call never fails.
         ensures fault { IfErr result (λ fault. fault ≡ OutOfMemory) }
         ensures empty { self.now ≡ [] → IsOk result }
     {
@@ -108,13 +92,10 @@ impl Dates {
         Ok(out)
     }
 
-    /// Returns the number of entries. Each name has 1 to 255 bytes of printable ASCII without a
-    /// space. Each level is from 0 to 9, and each date from 0 to `LAST_SECOND`.
+    /// Returns the number of entries. Each is within the limits of `Entry`.
     #[tactic(auto, using(crate::proofs::Entering::stored_entries))]
     pub fn len(&self) -> usize
-        // Returns the number of entries.
         ensures value { result ≡ length self.now }
-        // Each name, level and date in the list is within its limits (see `Entry::new`).
         ensures within { AreEntries self.now }
     {
         self.entries.len()
@@ -124,8 +105,6 @@ impl Dates {
     /// entry.
     #[tactic(auto, using(std::proofs::lemmas::Grind::elements))]
     pub fn get(&self, at: usize) -> Option<Entry<'_>>
-        // Returns the entry at an index, counted from 0. If the index is past the last entry, the
-        // call returns `None`.
         ensures { option_map plain_entry result ≡ slice_get self.now at }
     {
         Some(self.entries.get(at)?.entry())
@@ -136,10 +115,7 @@ impl Dates {
     /// lower level was dumped, and at most `LAST_SECOND`.
     #[tactic(auto, using(crate::proofs::Entering::base_bound, crate::proofs::Entering::stored_entries))]
     pub fn base(&self, name: &str, level: u8) -> u64
-        // Returns the latest date in the list for the given name and any level below the given
-        // level. If the list has no entry with this name and a lower level, the call returns 0.
         ensures value { result ≡ spec.base_of self.now name.now level }
-        // The returned date is at most `LAST_SECOND` (253402300799).
         ensures bound { result ≤ last_second }
     {
         let mut greatest = 0;
@@ -151,25 +127,16 @@ impl Dates {
         greatest
     }
 
-    /// Enters a dump in the list (dump(8)). The new entry replaces the first entry with its name
-    /// and level, even if that one has a later date, and any further ones are removed. Entries of
-    /// other names and levels are unchanged. If there is no entry with its name and level, it is
-    /// appended.
+    /// Enters a dump in the list (dump(8)). The dump replaces the first entry with its name and
+    /// level, even if that one has a later date, and any further ones are removed. Without such an
+    /// entry the dump is appended. Entries of other names and levels are unchanged.
     ///
-    /// Fails with `OutOfMemory` if a new entry is to be appended and an allocation for it fails.
-    /// Then the list is unchanged.
+    /// Fails with `OutOfMemory` if the dump is to be appended and an allocation fails. Then the
+    /// list is unchanged.
     pub fn enter(&mut self, entry: Entry<'_>) -> Result<(), DatesFault>
-        // If the list has entries with the dump's name and level, the new entry replaces the first
-        // of these entries. The call removes all other entries with this name and level. If the
-        // list has no entry with this name and level, the call appends the new entry. All entries
-        // with other names or levels stay.
         ensures entered { OnOk result (self.new ≡ spec.entered self.old (plain_entry entry.entry)) }
-        // If the call fails, the error is `OutOfMemory`. If the list has an entry with the dump's
-        // name and level, the call never fails.
         ensures fault { IfErr result (λ fault. fault ≡ OutOfMemory) }
-        // If the call fails, the list is unchanged.
         ensures unchanged { OnErr result (self.new ≡ self.old) }
-        // The call fails only if the list has no entry with the dump's name and level.
         ensures absent { OnErr result (spec.others (plain_entry entry.entry) self.old ≡ self.old) }
     {
         match position_of(&self.entries, entry) {

@@ -16,7 +16,7 @@ const NAME_LIMIT: usize = 255;
 /// An entry of dumpdates: the date of a dump of a file system at a level.
 #[derive(Clone, Copy, Debug)]
 pub struct Entry<'a> {
-    /// The file system: 1 to 255 bytes of printable ASCII without a space.
+    /// The name of the file system (see `is_name`).
     pub name: &'a str,
     /// The level of the dump, 0 to 9.
     pub level: u8,
@@ -34,9 +34,6 @@ impl<'a> Entry<'a> {
     /// Returns an entry with the given name, level and date. Returns None if `is_name` rejects the
     /// name, the level is above 9, or the date is above `LAST_SECOND`.
     pub fn new(name: &'a str, level: u8, date: u64) -> Option<Entry<'a>>
-        // If the name, the level and the date are within their limits, the call returns an entry
-        // with these values. Otherwise the call returns `None`. A name has 1 to 255 bytes of
-        // printable ASCII without a space. A level is 0 to 9, and a date is 0 to 253402300799.
         ensures given { IsSome result ↔ IsEntry (record { name = name.now; level = level; date = date }) }
         ensures value { IfSome result (λ e. plain_entry e ≡ record { name = name.now; level = level; date = date }) }
     {
@@ -51,19 +48,14 @@ impl<'a> Entry<'a> {
 /// printable ASCII without a space. Such bytes are UTF-8.
 #[tactic(auto, using(crate::proofs::Shapes::name_is_text, std::proofs::lemmas::Grind::elements))]
 pub fn is_name(name: &[u8]) -> bool
-    // Returns whether the bytes can be the name of a file system: 1 to 255 bytes of printable ASCII
-    // without a space. The bytes of a name are valid UTF-8.
     ensures name { IsTrue result ↔ IsName name.now }
     ensures text { IsName name.now → IsUtf8 name.now }
 {
     !name.is_empty() && name.len() <= NAME_LIMIT && name.iter().all(|b| b.is_ascii_graphic())
 }
 
-/// Returns the bytes as a `&str`, if they can be the name of a file system. Returns None if
-/// `is_name` rejects them.
+/// Returns the bytes as a `&str`, or None if `is_name` rejects them.
 pub fn as_name(bytes: &[u8]) -> Option<&str>
-    // If the bytes can be the name of a file system (see `is_name`), the call returns the bytes as
-    // a `&str`. Otherwise the call returns `None`. Tests: `bytes_as_names` in `dump_tests`.
     ensures given { IsSome result ↔ IsName bytes.now }
     ensures value { IfSome result (λ name. name.now ≡ bytes.now) }
 {

@@ -1,4 +1,4 @@
-//! Reasons why a file was not read, or a list was not written or not changed.
+//! The faults of dumpdates.
 
 use std::alloc::AllocError;
 use thiserror::Error;
@@ -23,8 +23,6 @@ pub enum DatesFault {
 }
 
 impl From<AllocError> for DatesFault {
-    // Turns a failed allocation into `OutOfMemory`.
-
     ghost use Rattle.std.specs.Prelude.{◌≡◌};
     ghost use Rattle.dumpdates.specs.declared.fault.DatesFault.TheVariants.{OutOfMemory};
 

@@ -1,6 +1,4 @@
 //! Reads the values of a line's words.
-//!
-//! A word of a line is a row of bytes without spaces and tabs.
 
 ghost use Rattle.std.specs.Prelude.{ℕ, ◌^◌, ◌<◌, ◌≤◌, MatchOption, IfSome};
 ghost use Rattle.dumpdates.specs.FoundLine.{SpellsMoment, plain_words, plain_fields};

@@ -12,7 +12,6 @@ use crate::list::append;
 use crate::stored::Stored;
 use std::alloc::Global;
 
-/// Returns how many bytes come before the first line feed, or the number of all bytes without one.
 pub(crate) fn line_len(bytes: &[u8]) -> usize
     ensures value { result ≡ position_or_len (λ b. b == line_feed) bytes.now }
     ensures within { result ≤ length bytes.now }
@@ -25,8 +24,7 @@ pub(crate) fn line_len(bytes: &[u8]) -> usize
     bytes.len()
 }
 
-/// Appends the entry on a line, unless the line is blank. Fails with `number`, which is the line's,
-/// if the line is bad, and with `OutOfMemory` if an allocation fails.
+/// Appends the entry on line `number`, unless the line is blank.
 pub(crate) fn read_line(
     alloc: Global,
     entries: &mut Vec<Stored>,

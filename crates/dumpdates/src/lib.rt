@@ -1,8 +1,8 @@
 //! The file dumpdates of dump(8): which file systems were dumped at which levels, and when.
 //!
 //! `Dates` is the list of its entries. It reads and writes the file exactly, and returns the base
-//! date of a dump. Entering a dump changes no entry of another name or level. `date_text` returns a
-//! date as the file has it, and `utc_text` returns it as numbers.
+//! date of a dump. `date_text` returns a date as the file has it, and `utc_text` returns it as
+//! numbers.
 //!
 //! # Contracts
 //!

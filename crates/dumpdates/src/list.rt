@@ -8,7 +8,6 @@ use crate::Entry;
 use crate::stored::Stored;
 use std::alloc::{AllocError, Global};
 
-/// Returns the index of the first entry with the same name and level, or None if there is none.
 pub(crate) fn position_of(entries: &[Stored], entry: Entry<'_>) -> Option<usize>
     ensures { result ≡ position (λ e. spec.is_same (plain_entry entry.entry) (plain_stored e)) entries.now }
 {
@@ -40,7 +39,6 @@ pub(crate) fn replace(entries: &mut Vec<Stored>, at: usize, entry: Entry<'_>)
     drop_same(entries, at + 1, entry);
 }
 
-/// Removes the entries with the same name and level from index `from` on.
 fn drop_same(entries: &mut Vec<Stored>, from: usize, entry: Entry<'_>)
     requires { from ≤ length entries.old.items }
     ensures { entries.new.items ≡ take from entries.old.items

@@ -8,7 +8,6 @@ ghost use Rattle.dumpdates.specs.Clock.{plain_moment};
 use crate::LAST_SECOND;
 use jiff::civil::{Date, date};
 
-/// The number of seconds in a day.
 pub(crate) const DAY: u64 = 86_400;
 
 /// A date and a time of day in UTC, which need not be valid.
@@ -22,7 +21,7 @@ pub(crate) struct Moment {
     pub(crate) second: u8,
 }
 
-/// Returns the year, the month and the day of a day number. Day 0 is 1 January 1970.
+/// Day 0 is 1 January 1970.
 fn day_numbered(number: u64) -> (u16, u8, u8)
     requires { number ≤ 2932896 }
     ensures year { result.0 ≡ (spec.day_numbered number).year }
@@ -34,7 +33,6 @@ fn day_numbered(number: u64) -> (u16, u8, u8)
     (day.year as u16, day.month, day.day)
 }
 
-/// Returns the date and the time in UTC that are `seconds` after 1970 began.
 pub(crate) fn moment_of(seconds: u64) -> Moment
     requires { seconds ≤ LAST_SECOND }
     ensures value { plain_moment result ≡ spec.moment_of seconds }

@@ -1,6 +1,4 @@
 //! The English names of ctime(3).
-//!
-//! A word of a line is a row of bytes without spaces and tabs.
 
 ghost use Rattle.std.specs.Prelude.{◌≡◌, ℕ, ◌<◌, MatchOption, IfSome, length, position, bytes_eq};
 ghost use Rattle.std.specs.Int.{IsInRange};
@@ -8,15 +6,13 @@ ghost use Rattle.std.specs.List.{list_any};
 ghost use Rattle.dumpdates.specs.Line.{SpellsMonth};
 ghost use Rattle.dumpdates.specs.Names as spec;
 
-/// The names of the weekdays, from Monday on.
 const WEEKDAYS: [&str; 7] = ["Mon", "Tue", "Wed", "Thu", "Fri", "Sat", "Sun"];
 
-/// The names of the months.
 const MONTHS: [&str; 12] = [
     "Jan", "Feb", "Mar", "Apr", "May", "Jun", "Jul", "Aug", "Sep", "Oct", "Nov", "Dec",
 ];
 
-/// Returns the name of the weekday of a day number. Day 0 was a Thursday.
+/// Day 0 was a Thursday.
 pub(crate) fn weekday_name(day: u64) -> &'static str
     ensures name { result.now ≡ spec.weekday_name day }
     ensures len { length result.now ≡ 3 }
@@ -24,7 +20,7 @@ pub(crate) fn weekday_name(day: u64) -> &'static str
     WEEKDAYS[((day % 7 + 3) % 7) as usize]
 }
 
-/// Returns the name of a month. The first month is 1.
+/// The first month is 1.
 #[tactic(auto, using(crate::proofs::Naming::now_at), unfolding(crate::specs::Names::month_name))]
 pub(crate) fn month_name(month: u8) -> &'static str
     requires { IsInRange 1 12 month }
@@ -34,7 +30,6 @@ pub(crate) fn month_name(month: u8) -> &'static str
     MONTHS[month as usize - 1]
 }
 
-/// Whether the word is the name of a weekday.
 pub(crate) fn is_weekday(word: &[u8]) -> bool
     ensures { result ≡ list_any (λ name. bytes_eq name word.now) spec.weekday_names }
 {
@@ -50,14 +45,12 @@ pub(crate) fn month_named(word: &[u8]) -> Option<u8>
     Some(at as u8 + 1)
 }
 
-/// Whether the word is one of the names.
 fn is_among(names: &[&str], word: &[u8]) -> bool
     ensures { result ≡ list_any (λ name. bytes_eq name.now word.now) names.now }
 {
     names.iter().any(|name| name.as_bytes() == word)
 }
 
-/// Returns the index of a word among the names, counted from 0, or None if it is not one of them.
 fn place_of(names: &[&str], word: &[u8]) -> Option<usize>
     ensures place { result ≡ position (λ name. bytes_eq name.now word.now) names.now }
     ensures bound { IfSome result (λ at. at < length names.now) }

@@ -7,7 +7,6 @@ ghost use Rattle.dumpdates.specs.Entry.{IsName, last_second};
 use crate::Entry;
 use std::alloc::{AllocError, Global};
 
-/// An entry that owns its name.
 #[derive(Drop)]
 pub(crate) struct Stored {
     pub(crate) name: String,
@@ -23,7 +22,6 @@ impl Stored {
     ghost use Rattle.dumpdates.specs.Dates as spec;
     ghost use Rattle.dumpdates.specs.Stored.{plain_entry, plain_stored};
 
-    /// Copies an entry. Fails if an allocation fails.
     pub(crate) fn new(alloc: Global, entry: Entry<'_>) -> Result<Stored, AllocError>
         ensures { IfOk result (λ e. plain_stored e ≡ plain_entry entry.entry) }
     {
@@ -34,7 +32,6 @@ impl Stored {
         })
     }
 
-    /// Returns the entry, and lends its name.
     pub(crate) fn entry(&self) -> Entry<'_>
         ensures { plain_entry result ≡ plain_stored self.now }
     {
@@ -45,14 +42,12 @@ impl Stored {
         }
     }
 
-    /// Whether this entry has the same name and level.
     pub(crate) fn is_same(&self, entry: Entry<'_>) -> bool
         ensures { result ≡ spec.is_same (plain_entry entry.entry) (plain_stored self.now) }
     {
         self.name.as_str() == entry.name && self.level == entry.level
     }
 
-    /// Whether this entry has this name and a lower level.
     pub(crate) fn is_below(&self, name: &str, level: u8) -> bool
         ensures { result ≡ spec.is_below name.now level (plain_stored self.now) }
     {

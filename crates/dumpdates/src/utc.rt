@@ -11,12 +11,9 @@ use crate::moment::{Moment, moment_of};
 use crate::{DATE_TEXT_BYTES, LAST_SECOND};
 use arrayvec::ArrayString;
 
-/// Returns a date in UTC as year, month, day and time: `1970-01-01 00:00:00`. The date is in seconds
-/// since 1970 began. Returns None if it is above `LAST_SECOND`. Allocates nothing.
+/// Returns a date in UTC as year, month, day and time: `1970-01-01 00:00:00`. The date is in
+/// seconds since 1970 began. Returns None if it is above `LAST_SECOND`. Allocates nothing.
 pub fn utc_text(date: u64) -> Option<ArrayString<DATE_TEXT_BYTES>>
-    // Returns the year, the month, the day and the time of a date in UTC, with two digits for each
-    // but the year. Each date up to `LAST_SECOND` (253402300799) has a text. For a later date the
-    // call returns `None`. Tests: `dates_in_utc` in `dump_tests`.
     ensures given { IsSome result ↔ (date ≤ last_second) }
     ensures text { IfSome result (λ text. text.bytes ≡ spec.utc_text date) }
 {
@@ -26,7 +23,6 @@ pub fn utc_text(date: u64) -> Option<ArrayString<DATE_TEXT_BYTES>>
     Some(utc(date))
 }
 
-/// Returns the text of a date up to `LAST_SECOND`.
 #[tactic(auto, using(std::proofs::Common::append_assoc), unfolding(crate::specs::Text::utc_text))]
 fn utc(date: u64) -> ArrayString<DATE_TEXT_BYTES>
     requires { date ≤ LAST_SECOND }
@@ -39,7 +35,6 @@ fn utc(date: u64) -> ArrayString<DATE_TEXT_BYTES>
     text
 }
 
-/// Returns the year, the month and the day.
 #[tactic(auto, using(crate::proofs::Writing::year_digits, std::proofs::Common::append_assoc))]
 fn utc_day(moment: Moment) -> ArrayString<DATE_TEXT_BYTES>
     requires { IsMoment (plain_moment moment) }
@@ -55,7 +50,6 @@ fn utc_day(moment: Moment) -> ArrayString<DATE_TEXT_BYTES>
     text
 }
 
-/// Appends the time of day as hh:mm:ss.
 #[tactic(auto, using(std::proofs::Common::append_assoc))]
 fn push_clock(text: &mut ArrayString<DATE_TEXT_BYTES>, moment: Moment)
     requires moment { IsMoment (plain_moment moment) }

@@ -1,6 +1,4 @@
-//! Splits a line into its words.
-//!
-//! A word of a line is a row of bytes without spaces and tabs.
+//! Splits a line into its words. A word of a line is a row of bytes without spaces and tabs.
 
 ghost use Rattle.std.specs.Prelude.{◌≡◌, ◌≤◌, length, option_map};
 ghost use Rattle.std.specs.List.{prefix_len, position_or_len, list_all};
@@ -46,14 +44,12 @@ pub(crate) fn words_of(line: &[u8]) -> Option<LineWords<'_>>
     })
 }
 
-/// Whether the bytes are only spaces and tabs, or there are none.
 pub(crate) fn is_blank(bytes: &[u8]) -> bool
     ensures { result ≡ list_all line_spec.is_space bytes.now }
 {
     bytes.iter().all(|b| is_space(*b))
 }
 
-/// Whether this byte separates words: a space or a tab.
 fn is_space(byte: u8) -> bool
     ensures { result ≡ line_spec.is_space byte }
 {
@@ -70,7 +66,6 @@ fn first_word(bytes: &[u8]) -> (&[u8], &[u8])
     text.split_at(word_len(text))
 }
 
-/// Returns how many spaces and tabs the bytes begin with.
 fn space_len(bytes: &[u8]) -> usize
     ensures value { result ≡ prefix_len line_spec.is_space bytes.now }
     ensures within { result ≤ length bytes.now }
@@ -83,8 +78,6 @@ fn space_len(bytes: &[u8]) -> usize
     bytes.len()
 }
 
-/// Returns how many bytes come before the first space or tab, or the number of all bytes without
-/// one.
 fn word_len(bytes: &[u8]) -> usize
     ensures value { result ≡ position_or_len line_spec.is_space bytes.now }
     ensures within { result ≤ length bytes.now }

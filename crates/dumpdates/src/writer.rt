@@ -13,7 +13,6 @@ const NAME_PLACES: usize = 32;
 
 const SPACES: [u8; NAME_PLACES] = [b' '; NAME_PLACES];
 
-/// Appends the lines of entries.
 pub(crate) fn push_lines(out: &mut Vec<u8>, entries: &[Stored]) -> Result<(), AllocError>
     ensures written { OnOk result (out.new.items ≡ out.old.items ++ spec.written (plain_all entries.now)) }
     ensures empty { entries.now ≡ [] → IsOk result }
@@ -24,7 +23,6 @@ pub(crate) fn push_lines(out: &mut Vec<u8>, entries: &[Stored]) -> Result<(), Al
     Ok(())
 }
 
-/// Appends the line of an entry.
 #[tactic(auto, using(std::proofs::Common::append_assoc), unfolding(crate::specs::Text::line_text))]
 fn push_line(out: &mut Vec<u8>, entry: &Stored) -> Result<(), AllocError>
     ensures { OnOk result (out.new.items ≡ out.old.items ++ spec.line_text (plain_stored entry.now)) }
@@ -35,7 +33,6 @@ fn push_line(out: &mut Vec<u8>, entry: &Stored) -> Result<(), AllocError>
     out.extend_from_slice(b"\n")
 }
 
-/// Appends a name, padded with spaces to 32 bytes if it is shorter.
 fn push_padded(out: &mut Vec<u8>, name: &str) -> Result<(), AllocError>
     ensures { OnOk result (out.new.items ≡ out.old.items ++ spec.padded_name name.now) }
 {

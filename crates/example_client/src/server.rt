@@ -1,10 +1,9 @@
-//! The server of a dump: an example to copy.
+//! The server of a dump.
 use std::alloc::AllocError;
 
 /// A server that answers each request at once.
 pub trait Server {
-    /// Answers one whole request, and appends the answer to `reply`.
-    ///
-    /// Fails only if an allocation fails. If the connection has ended, it appends nothing.
+    /// Appends the answer to a whole request to `reply`, or nothing if the connection has ended.
+    /// Fails only if an allocation fails.
     fn answer(&mut self, request: &[u8], reply: &mut Vec<u8>) -> Result<(), AllocError>;
 }

@@ -1,4 +1,4 @@
-//! The loop around a client: an example to copy.
+//! The loop around a client.
 ghost use Rattle.std.specs.Prelude.{OnOk};
 ghost use Rattle.example_client.specs.Whole.{IsWhole};
 
@@ -6,23 +6,18 @@ use crate::server::Server;
 use dump_client::{AttemptFault, Blocks, Client, Progress, StartFault, State};
 use std::alloc::{AllocError, Global};
 
-/// Why a dump ended before all its blocks were counted. Volumes that were counted stay counted.
+/// Why a dump stopped. Counted volumes stay counted.
 #[derive(Clone, Copy, Debug, PartialEq, Eq)]
 pub enum Stopped {
     /// An attempt failed with this error.
     Failed(AttemptFault),
-    /// The run had stopped before: the client asks whether to retry an attempt, or the run was
-    /// abandoned.
+    /// The client asks whether to retry an attempt, or the run was abandoned.
     NotUnderWay,
     /// An allocation failed.
     OutOfMemory,
 }
 
 impl From<AllocError> for Stopped {
-    // from_gives: `AllocError` and `StartFault::OutOfMemory` become `Stopped::OutOfMemory`.
-    // `StartFault::WrongState` becomes `Stopped::NotUnderWay`, which means that the client's state
-    // allows no attempt.
-
     ghost use Rattle.std.specs.Prelude.{◌≡◌};
     ghost use Rattle.example_client.specs.declared.volumes.Stopped.TheVariants.{OutOfMemory};
 
@@ -47,9 +42,6 @@ impl From<StartFault> for Stopped {
     }
 }
 
-/// Sends the client's next request to the server, and gives the whole reply to the client.
-///
-/// Fails if the attempt fails, or if an allocation fails.
 fn exchange<B: Blocks + Drop, S: Server>(
     client: &mut Client<B>,
     server: &mut S,
@@ -69,7 +61,6 @@ fn exchange<B: Blocks + Drop, S: Server>(
     }
 }
 
-/// Reports to the client that no more bytes come. Fails if the attempt fails.
 fn end<B: Blocks + Drop>(client: &mut Client<B>) -> Result<(), Stopped> {
     match client.ended() {
         Progress::Failed(fault) => Err(Stopped::Failed(fault)),
@@ -77,20 +68,14 @@ fn end<B: Blocks + Drop>(client: &mut Client<B>) -> Result<(), Stopped> {
     }
 }
 
-/// Makes a client write all volumes of its run that are not counted yet, each in one attempt.
-///
-/// Returns `Ok` if the run is finished: the counted volumes are whole and are all its blocks, in
-/// order. Stops at the first attempt that fails. The errors are those of `Stopped`.
+/// Makes a client write all volumes of its run that are not counted, each in one attempt. Stops at
+/// the first attempt that fails. `Ok` means that the run is finished.
 pub fn dump<B: Blocks + Drop, S: Server>(
     alloc: Global,
     client: &mut Client<B>,
     server: &mut S,
 ) -> Result<(), Stopped>
-    // If the call returns `Ok`, the client's run is finished, and the counted volumes together
-    // contain all blocks of the run. The first counted volume then begins with the run's first
-    // block. Each later counted volume then begins where the previous counted volume ends. No
-    // clause says what the server kept, or when the call returns an error. The contract allows a
-    // body that always returns an error. The tests in `dump_tests` reject such a body.
+    // No clause says what the server kept, or when a dump stops.
     ensures { OnOk result (IsWhole client.new.at) }
 {
     let mut request = Vec::new(alloc);

@@ -12,8 +12,7 @@ use std::process::ExitCode;
 /// The capacity of each reel, in bytes.
 const CAPACITY: u64 = 1 << 20;
 
-/// Makes two drives, `/dev/st0` and `/dev/st1`, each with an empty reel. Returns `None` if an
-/// allocation fails.
+/// Makes two drives, each with an empty reel. Returns `None` if an allocation fails.
 fn two_drives(alloc: Global) -> Option<ListStacks>
     ensures { IfSome result (λ stacks. length stacks.library.drives ≡ 2) }
 {

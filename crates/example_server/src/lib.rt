@@ -1,8 +1,5 @@
-//! An example to copy: a tape server that does not store the bytes written to its tape. The server
-//! reads requests from any stream and replies to each.
-//!
-//! `answer` returns the reply of such a tape to a request. `serve` is the loop around it. It needs
-//! only `rmt_wire`: a reader that splits the bytes into requests, and a writer of replies.
+//! An example to copy: a tape server that stores nothing. `answer` is its reply to a request, and
+//! `serve` is the loop around it. They need only `rmt_wire`.
 #![tactic(auto)]
 
 mod reply;

@@ -1,4 +1,4 @@
-//! The replies of a tape that keeps nothing: an example to copy.
+//! The replies of a tape that keeps nothing.
 ghost use Rattle.std.specs.Prelude.{◌≡◌, List, ℕ};
 ghost use Rattle.rmt_wire.specs.Lent.{plain_request, plain_reply};
 ghost use Rattle.rmt_wire.specs.Request.{SpellsRequest};
@@ -8,16 +8,10 @@ ghost use Rattle.example_server.specs.Serving.{answer_to};
 use rmt_wire::errno::EINVAL;
 use rmt_wire::{Reply, Request};
 
-/// Returns the tape's reply to a request.
-///
-/// Each request is done at once. A write takes all its bytes, and a read finds none. The reply to
-/// an operation is its count. The reply to a write whose bytes were dropped is the error `EINVAL`.
+/// Returns the tape's reply to a request. A write takes all its bytes, a read finds none, and an
+/// operation returns its count. A write whose bytes were dropped gets `EINVAL`.
 pub fn answer(request: &Request<'_>) -> Reply<'static>
     requires { (text : List ℕ) × SpellsRequest text (plain_request request.now) }
-    // The reply to a write is the number of bytes in the write. If the reader of requests dropped
-    // the bytes of the write, the reply is the error 22 (EINVAL) instead. The reply to a read has
-    // no bytes. The reply to an operation is the operation's count. The reply to an open or a close
-    // is 0. Each of these replies can be written as bytes of the rmt protocol.
     ensures value { plain_reply result ≡ answer_to (plain_request request.now) }
     ensures spelling { ReplyHasSpelling (plain_reply result) }
 {

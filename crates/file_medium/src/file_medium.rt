@@ -1,6 +1,4 @@
-//! A medium that is a file of the operating system.
-//!
-//! `at` is an offset in bytes.
+//! A file as a medium. `at` is an offset in bytes.
 
 ghost use Rattle.std.specs.Prelude.{◌≡◌, ◌≢◌, ◌++◌, ◌≤◌, ◌↔◌, false, true, IfOk, None, Ok, OnErr, OnOk, length};
 ghost use Rattle.tape.specs.Failures.{raised};
@@ -15,34 +13,27 @@ use std::io::{self, ErrorKind, IoSlice, Seek, SeekFrom};
 use std::marker::Model;
 use std::os::unix::fs::FileExt;
 use tape::{Medium, MediumFailed};
-use window::{LENGTH_SIZE, WINDOW_SIZE, Window};
+use window::{LENGTH_SIZE, Window};
 
-/// A medium that is a file of the operating system. The contracts promise nothing about its bytes,
-/// and any call of it can fail.
+/// A medium that is a file of the operating system. Any call of it can fail.
 ///
 /// The file must be open for the calls that are made. Nothing else may write to it or cut it
-/// meanwhile, because some results of the system are kept:
-///
-/// - the length, until a call that changes it fails;
-/// - the last few bytes that were read when a length was read, until a call changes the file or
-///   fails.
+/// meanwhile, because the medium keeps its length and up to 4,096 bytes that it read.
 #[derive(Drop)]
 pub struct FileMedium {
     file: File,
     len: Option<u64>,
-    window: Option<Window>,
+    window: Window,
     failed: Option<FailedCall>,
     truncations: u64,
     is_read_only: bool,
     is_written: bool,
 }
 
-/// The last call that failed.
 #[derive(Clone, Copy)]
 struct FailedCall {
     /// How many calls failed before it, at most the greatest `u64`.
     before: u64,
-    /// Why it failed.
     reason: io::Error,
 }
 
@@ -60,11 +51,8 @@ impl Model for FileMedium {
 impl FileMedium {
     /// Makes a medium of the given file. Makes no call of the system.
     ///
-    /// A file to which bytes are appended must be open to append (`OpenOptions::append`): bytes are
-    /// written at its end.
+    /// A file to which bytes are appended must be open to append (`OpenOptions::append`).
     pub fn new(file: File) -> FileMedium
-        // The new medium has counted no failure and no cut to length 0. `is_written` of the new
-        // medium returns false.
         ensures count { result.failures ≡ 0 }
         ensures begun { result.truncations ≡ 0 }
         ensures unwritten { result.written ≡ false }
@@ -72,7 +60,7 @@ impl FileMedium {
         FileMedium {
             file,
             len: None,
-            window: None,
+            window: Window::new(),
             failed: None,
             truncations: 0,
             is_read_only: false,
@@ -85,9 +73,7 @@ impl FileMedium {
     /// An append fails, and so does a cut that would shorten the file. The file is unchanged then,
     /// and the reason is `PermissionDenied`.
     pub fn read_only(file: File) -> FileMedium
-        // The new medium has counted no failure and no cut to length 0. The new medium's
-        // `is_written` returns false. A test shows that a write to the medium fails without a
-        // system call. Tests: `tests/checks/moves.py`.
+        // Only a test shows that a write fails without a system call: `tests/checks/moves.py`.
         ensures count { result.failures ≡ 0 }
         ensures begun { result.truncations ≡ 0 }
         ensures unwritten { result.written ≡ false }
@@ -97,33 +83,27 @@ impl FileMedium {
         medium
     }
 
-    /// Returns the file, so that the caller can lock the file or read its metadata. No call of a
-    /// medium does this.
+    /// Returns the file, to lock it or to read its metadata.
     pub fn file(&self) -> &File {
         &self.file
     }
 
-    /// Returns how many cuts to length 0 succeeded, including cuts of an empty file. The count
-    /// stops at the greatest `u64`.
+    /// Returns how many cuts to length 0 succeeded, including cuts of an empty file, at most the
+    /// greatest `u64`.
     pub fn truncations(&self) -> u64
-        // `truncations` returns how many cuts to length 0 succeeded.
         ensures { result ≡ self.now.truncations }
     {
         self.truncations
     }
 
-    /// Returns whether an append to the medium or a cut of the medium was tried. A call that failed
-    /// counts too.
+    /// Returns whether an append or a cut was tried, even one that failed.
     pub fn is_written(&self) -> bool
-        // `is_written` returns true if and only if an append to the medium or a cut of the medium
-        // was tried. An append or a cut that failed counts too.
         ensures { result ≡ self.now.written }
     {
         self.is_written
     }
 
-    /// Makes the system write the file's buffered data to the device. A failure is not counted
-    /// here.
+    /// Makes the system write the file's buffered data to the device. A failure is not counted.
     ///
     /// Fails with the system's error. The system reports only once what it could not write. So a
     /// sync after a failed one guarantees nothing about what was written before the failed one.
@@ -131,12 +111,9 @@ impl FileMedium {
         self.file.sync_all()
     }
 
-    /// Returns the error of the last `Medium` call that failed. Returns `None` if no call has
-    /// failed.
+    /// Returns the error of the last `Medium` call that failed, or `None` if none has failed.
     pub fn last_error(&self) -> Option<io::Error>
-        // `last_error` returns an error if and only if a `Medium` call has failed. A test shows
-        // that `last_error` returns the error of the last `Medium` call that failed. Tests:
-        // `tests/checks/log.py`.
+        // Only a test shows which error this is: `tests/checks/log.py`.
         ensures { result ≡ None ↔ self.now.failures ≡ 0 }
     {
         match &self.failed {
@@ -145,7 +122,7 @@ impl FileMedium {
         }
     }
 
-    /// Counts a failure and keeps its reason. Returns the value of a success.
+    /// Counts a failure and keeps its reason.
     fn count<T: Drop>(&mut self, found: io::Result<T>) -> Result<T, MediumFailed>
         ensures same { OnOk result (self.new ≡ self.old) }
         ensures failed { OnErr result (self.new ≡ record self.old { failures = raised self.old.failures }) }
@@ -154,7 +131,7 @@ impl FileMedium {
         match found {
             Ok(value) => Ok(value),
             Err(reason) => {
-                self.window = None;
+                self.window.clear();
                 let before = self.failures();
                 self.failed = Some(FailedCall { before, reason });
                 Err(MediumFailed)
@@ -162,14 +139,12 @@ impl FileMedium {
         }
     }
 
-    /// Counts a cut to length 0.
     fn begin(&mut self)
         ensures { self.new ≡ record self.old { truncations = raised self.old.truncations } }
     {
         self.truncations = self.truncations.saturating_add(1);
     }
 
-    /// Fails with `PermissionDenied` if the file may only be read.
     fn check_writable(&self) -> io::Result<()> {
         if self.is_read_only {
             let words = "the reel may only be read";
@@ -183,10 +158,10 @@ impl FileMedium {
         ensures { self.new ≡ self.old }
     {
         self.len = None;
-        self.window = None;
+        self.window.clear();
     }
 
-    /// Appends the frame, the bytes and the frame. `end` is the present length of the file.
+    /// Appends frame, bytes and frame to a file of the length `end`.
     fn write_at_end(&mut self, end: u64, frame: &[u8], bytes: &[u8]) -> Result<(), MediumFailed>
         ensures same { OnOk result (self.new ≡ self.old) }
         ensures failed { OnErr result (self.new ≡ record self.old { failures = raised self.old.failures }) }
@@ -200,38 +175,34 @@ impl FileMedium {
         Ok(())
     }
 
-    /// Reads a length, and keeps it with the bytes after it if they are there.
     fn read_length(&mut self, at: u64, into: &mut [u8]) -> io::Result<usize>
         ensures same { length into.new ≡ length into.old }
         ensures bound { IfOk result (λ n. n ≤ length into.new) }
         ensures kept { self.new ≡ self.old }
     {
-        let mut bytes = [0; WINDOW_SIZE];
-        let filled = fill(&self.file, at, &mut bytes, into.len())?;
-        if filled == WINDOW_SIZE {
-            self.window = Some(Window { at, bytes });
-        }
-        let count = filled.min(into.len());
-        into[..count].copy_from_slice(&bytes[..count]);
+        let piece = self.window.piece_for(at);
+        let before = at.saturating_sub(piece.at) as usize;
+        let least = before.saturating_add(into.len());
+        self.window.read(&self.file, piece, least)?;
+        let found = self.window.rest(at);
+        let count = found.len().min(into.len());
+        into[..count].copy_from_slice(&found[..count]);
         Ok(count)
     }
 
-    /// Copies the bytes from offset `at` on out of the window, if it has all that fit in `into`.
-    /// Returns whether it has.
+    /// Fills `into` from the window if it has all these bytes. Returns whether it has.
     fn read_window(&self, at: u64, into: &mut [u8]) -> bool
         ensures { length into.new ≡ length into.old }
     {
-        let Some(window) = &self.window else {
-            return false;
-        };
-        let Some(found) = window.find(at, into.len()) else {
-            return false;
-        };
-        into.copy_from_slice(found);
-        true
+        match self.window.rest(at).get(..into.len()) {
+            Some(found) => {
+                into.copy_from_slice(found);
+                true
+            }
+            None => false,
+        }
     }
 
-    /// Cuts the file to `len` bytes, which is less than it has.
     fn shorten(&mut self, len: u64) -> Result<(), MediumFailed>
         ensures same { OnOk result (self.new ≡ self.old) }
         ensures failed { OnErr result (self.new ≡ record self.old { failures = raised self.old.failures }) }
@@ -245,19 +216,6 @@ impl FileMedium {
 }
 
 impl Medium for FileMedium {
-    // No contract says which bytes a file contains.
-    //
-    // call, same: Each call keeps the promises that the trait `Medium` makes for the call.
-    //
-    // failed, failures: Each failed call counts as one failure, up to the greatest `u64`. No other
-    // call counts as a failure.
-    //
-    // begun, same: Each successful cut to length 0 counts as one truncation, up to the greatest
-    // `u64`. No other call counts as a truncation.
-    //
-    // same, failed, begun: Each append or cut marks the medium as written to, even if the append or
-    // the cut fails. No other call marks the medium.
-
     ghost holds = { λ _ _. ⊥ };
 
     ghost failures = { λ m. m.failures };
@@ -306,7 +264,7 @@ impl Medium for FileMedium {
         self.write_at_end(end, &[], bytes)
     }
 
-    /// Makes one call of the system to write, if the system takes all of it at once.
+    /// Writes in one call of the system, if that takes all of it.
     fn append_framed(&mut self, frame: &[u8], bytes: &[u8]) -> Result<(), MediumFailed>
         ensures call { IsMediumCall file_kind self.old (Append (frame.now ++ (bytes.now ++ frame.now)) result) self.new }
         ensures same { OnOk result (self.new ≡ record self.old { written = true }) }
@@ -345,8 +303,7 @@ impl Medium for FileMedium {
     ghost bounded = { λ _ _ told. absurd told };
 }
 
-/// Returns how many bytes the file has. For anything but a regular file, such as a block device,
-/// this is the offset of its end.
+/// For anything but a regular file, such as a block device, this is the offset of its end.
 fn length_of(mut file: &File) -> io::Result<u64> {
     let found = file.metadata()?;
     if found.is_file() {
@@ -355,19 +312,15 @@ fn length_of(mut file: &File) -> io::Result<u64> {
     file.seek(SeekFrom::End(0))
 }
 
-/// Returns the offset after the frame, the bytes and the frame, which begin at `at`. Returns `None`
-/// if a `u64` cannot hold it.
 fn offset_behind(at: u64, frame: &[u8], bytes: &[u8]) -> Option<u64> {
     let within = at.checked_add(frame.len() as u64)?;
     let behind = within.checked_add(bytes.len() as u64)?;
     behind.checked_add(frame.len() as u64)
 }
 
-/// Writes the frame, the bytes and the frame at the end of a file that is open to append. Makes one
-/// call of the system if it takes them all.
+/// Writes frame, bytes and frame to a file that is open to append. Repeats an interrupted call.
 ///
-/// Fails with the system's error, or with `WriteZero` if the system takes nothing. Repeats a call
-/// that was interrupted.
+/// Fails with the system's error, or with `WriteZero` if the system takes nothing.
 fn write_framed(file: &File, frame: &[u8], bytes: &[u8]) -> io::Result<()> {
     let frame = IoSlice::new(frame);
     let mut parts = [frame, IoSlice::new(bytes), frame];
@@ -389,9 +342,7 @@ fn write_framed(file: &File, frame: &[u8], bytes: &[u8]) -> io::Result<()> {
 }
 
 /// Reads from offset `at` on, until at least `least` bytes are there, the buffer is full or the
-/// file ends. Returns how many bytes it read.
-///
-/// Fails with the system's error. Repeats a call that was interrupted.
+/// file ends. Returns how many. Repeats an interrupted call.
 fn fill(file: &File, at: u64, into: &mut [u8], least: usize) -> io::Result<usize>
     ensures bound { IfOk result (λ n. n ≤ length into.new) }
     ensures same { length into.new ≡ length into.old }

@@ -1,12 +1,10 @@
-//! A file of the operating system as a medium.
-//!
-//! The contracts promise nothing about the file's content. Failed calls are counted.
-//! `reserve_std_fds` makes sure that no file gets the descriptor of a standard stream.
+//! A file of the operating system as a medium. `reserve_std_fds` makes sure that no file gets the
+//! descriptor of a standard stream.
 //!
 //! # Contracts
 //!
-//! A medium holds bytes (see the crate `tape`). A *cut* is a call of `cut`, which shortens the
-//! medium to a given length.
+//! The contracts promise nothing about the file's content. A medium holds bytes (see the crate
+//! `tape`). A *cut* is a call of `cut`, which shortens the medium to a given length.
 #![tactic(auto)]
 
 mod file_medium;

@@ -10,10 +10,8 @@ const PLACES: i32 = 3;
 /// Reserves the descriptor of each standard stream that was closed when the program started.
 ///
 /// Call it before the program opens anything. Otherwise the first file or connection would get such
-/// a descriptor, and what is written to the stream would be written into it.
-///
-/// It opens the folder `/` there, which can neither be written to nor read as a file. If `/` can't
-/// be opened, the descriptors stay free.
+/// a descriptor, and what is written to the stream would be written into it. It opens the folder
+/// `/` there. If that fails, the descriptors stay free.
 pub fn reserve_std_fds<R: Files<File = File>>(rt: &R) {
     for _ in 0..PLACES {
         match fs::open(rt, "/") {

@@ -1,12 +1,9 @@
-//! A take and a look of a seat to which other seats of the table are lent.
+//! A take and a look of a seat to which other seats of the table are lent. A lent seat makes no
+//! step meanwhile, so the clauses can say whether it holds the drive at the moment of the step.
 //!
-//! A lent seat makes no step of its own meanwhile. So the clauses can say of it whether it holds
-//! the drive at the moment of the step. The word of a drive is the number of the seat that holds
-//! it, or 0 if none does.
-//!
-//! Each of the two bodies calls `take` or `holder` once. Keep them free of private helpers and of
-//! `..` in patterns. Otherwise a table could pass that tells the truth only while such a helper
-//! runs, or while a field of `HoldSeat` that no pattern names is set.
+//! Keep both bodies free of private helpers and of `..` in patterns. Otherwise a table could pass
+//! that tells the truth only while such a helper runs, or while a field of `HoldSeat` that no
+//! pattern names is set.
 ghost use Rattle.std.specs.Prelude.{◌≡◌, ◌<◌, ◌==◌, cond, map, All};
 ghost use Rattle.std.specs.Vec.{vec_capacity};
 ghost use Rattle.drives.specs.Holding.{taken, looked, found_by, TakeAnswers};
@@ -19,24 +16,20 @@ use crate::table::HoldTable;
 use drives::Taken;
 
 impl HoldTable {
-    /// Takes drive `drive` for the given seat by one call of `take`, while the seats `others` of
-    /// this table are lent to the seat. Allocates nothing.
+    /// Takes the drive for the given seat by one call of `take`, while the seats `others` are lent
+    /// to it. All must be of this table. Leaves `others` unchanged. Allocates nothing.
+    ///
+    /// Returns `Busy` with the number of one of these seats if and only if that seat holds the
+    /// drive. If these are all 32 seats and none holds it, returns `Held`.
     pub fn take_among(&self, seat: &mut HoldSeat, others: &mut Vec<HoldSeat>, drive: usize) -> Taken
         requires seat { IsSeatAt self.now seat.old }
         requires others { All (λ s. IsSeatAt self.now s) others.old.items }
         requires drive { drive < self.now.words }
-        // The given seat makes one step, with the promises of `HoldTable::take`.
         ensures step { seat.new ≡ next seat.old (taken seat.old.view drive (found_by result)) }
         ensures answer { TakeAnswers result seat.old.view seat.new.view drive }
         ensures rule { IsRuledStep drive seat.old.view seat.old.made (found_by result)
             (cond (found_by result == 0) seat.old.view.number (found_by result)) seat.new.view }
-        // If the given seat or a lent seat holds the drive, `take_among` returns `Busy` with the
-        // number of this seat. `take_among` never returns `Busy` with the number of one of these
-        // seats that does not hold the drive. If these are all 32 seats of the table, and none of
-        // them holds the drive, `take_among` returns `Held`.
         ensures found { IsFound (found_by result) drive (views_among seat.old others.old.items) }
-        // The lent seats are returned unchanged and in order, without witnesses of their own (they
-        // have none).
         ensures others { others.new.items ≡ map lone others.old.items }
         ensures capacity { vec_capacity others.new ≡ vec_capacity others.old }
     {
@@ -59,22 +52,15 @@ impl HoldTable {
         taken
     }
 
-    /// Returns what one call of `holder` finds at drive `drive`, while the seats `others` of this
-    /// table are lent to the given seat. Allocates nothing.
+    /// Like `take_among`, but makes one call of `holder`: returns the number in place of `Busy`,
+    /// and 0 in place of `Held`.
     pub fn holder_among(&self, seat: &mut HoldSeat, others: &mut Vec<HoldSeat>, drive: usize) -> u64
         requires seat { IsSeatAt self.now seat.old }
         requires others { All (λ s. IsSeatAt self.now s) others.old.items }
         requires drive { drive < self.now.words }
-        // The given seat makes one step, with the promises of `HoldTable::holder`.
         ensures step { seat.new ≡ next seat.old (looked seat.old.view drive result) }
         ensures rule { IsRuledStep drive seat.old.view seat.old.made result result seat.new.view }
-        // If the given seat or a lent seat holds the drive, `holder_among` returns the number of
-        // this seat. `holder_among` never returns the number of one of these seats that does not
-        // hold the drive. If these are all 32 seats of the table, and none of them holds the drive,
-        // `holder_among` returns 0.
         ensures found { IsFound result drive (views_among seat.old others.old.items) }
-        // The lent seats are returned unchanged and in order, without witnesses of their own (they
-        // have none).
         ensures others { others.new.items ≡ map lone others.old.items }
         ensures capacity { vec_capacity others.new ≡ vec_capacity others.old }
     {

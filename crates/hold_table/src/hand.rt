@@ -1,39 +1,17 @@
-//! A shared reference to a table, for each of the threads that share it.
+//! The table as a `Holds`.
 
 use crate::seat::HoldSeat;
 use crate::table::HoldTable;
 use drives::{Holds, Taken};
 
-/// A shared reference to a table. Each thread has its own. Each call is one atomic step and does
-/// not wait. The contracts do not say who holds a drive, because other threads can make steps at
-/// any time.
+/// A shared reference to a table. Each thread has its own. The contracts do not say who holds a
+/// drive, because other threads can make steps at any time.
 #[derive(Clone, Copy, Drop)]
 pub struct TableHand<'a> {
-    /// The table.
     pub table: &'a HoldTable,
 }
 
 impl<'a> Holds for TableHand<'a> {
-    // A `TableHand` is a shared reference to a table, and implements the trait `Holds` of the crate
-    // `drives`. The contracts of a `TableHand` only say of the given seat and of its witnesses
-    // whether they hold a drive, because other threads can make steps at any time. After each call
-    // the given seat still belongs to the table, and the `TableHand` still refers to the same
-    // table.
-    //
-    // beside: The number that `take` finds or `holder` returns is the number of the given seat, or
-    // of one of its witnesses, if and only if this seat holds the drive.
-    //
-    // take, step, answer, known, own, same, rule: `take` calls the table's `take`, which makes one
-    // step. The hold rule (a drive's word is 0 or the number of the drive's only holder) is true
-    // before and after the step. The number that the step finds in the drive's word is at most 32.
-    //
-    // give, step, own, same, rule: `give` calls the table's `give`, which makes one step. The hold
-    // rule is true before and after the step.
-    //
-    // holder, step, known, mine, own, rule: `holder` calls the table's `holder`, which makes one
-    // step. The hold rule is true before and after the step. `holder` returns the given seat's
-    // number if and only if the given seat holds the drive.
-
     ghost use Rattle.std.specs.Prelude.{◌≡◌, ◌<◌, ◌≤◌, ◌↔◌, ◌==◌, cond, [], IsTrue};
     ghost use Rattle.drives.specs.Holding.{has, taken, given, looked, found_by, TakeAnswers};
     ghost use Rattle.hold_table.specs.Rule.{IsRuledStep};

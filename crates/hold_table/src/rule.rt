@@ -1,13 +1,11 @@
 //! The rule that holds between any two atomic steps on the table, and what a seat learns from each
 //! kind of step.
-//!
-//! A step is a take, a give, or a look, which only reads who holds the drive.
 use atomic_table::{Join, Play, Split, TableRule};
 use drives::View;
 use std::collections::LinkedList;
 
-/// What the table knows about a seat. It is used only in proofs, where its counts have no limit: no
-/// value of it is made.
+/// What the table knows about a seat. No value of it is made: it is used only in proofs, where its
+/// counts have no limit.
 pub struct Seated {
     /// What the seat knows.
     pub view: View,
@@ -17,8 +15,7 @@ pub struct Seated {
     pub spare: u64,
 }
 
-/// A group: the seats that one seat of `atomic_table` represents. That is one seat, before its
-/// witnesses.
+/// The seats that one seat of `atomic_table` represents: one seat, before its witnesses.
 pub(crate) type SeatGroup = LinkedList<Seated>;
 
 /// The rule of the table. Its key is the number of drives.
@@ -48,7 +45,6 @@ impl Split<SeatGroup> for Deal {
     ghost right = { λ c. following (first_of c) ∷ [] };
 }
 
-/// One take.
 pub(crate) struct Takes;
 
 impl Play<(), SeatGroup> for Takes {
@@ -57,7 +53,6 @@ impl Play<(), SeatGroup> for Takes {
     ghost then = { TakesAt };
 }
 
-/// One give.
 pub(crate) struct Gives;
 
 impl Play<(), SeatGroup> for Gives {
@@ -66,7 +61,6 @@ impl Play<(), SeatGroup> for Gives {
     ghost then = { GivesAt };
 }
 
-/// One look.
 pub(crate) struct Looks;
 
 impl Play<(), SeatGroup> for Looks {
@@ -120,7 +114,6 @@ impl Play<(), SeatGroup> for Compares {
     ghost then = { ComparesAt };
 }
 
-/// A group of no seats is made.
 pub(crate) struct Enters;
 
 impl Play<(), SeatGroup> for Enters {

@@ -6,9 +6,8 @@ use crate::rule::SeatGroup;
 use atomic_table::Seat;
 use std::marker::Model;
 
-/// A seat at a table. Only `HoldTable::new` makes seats. One thread has a seat at a time.
-///
-/// Contracts see which table it belongs to, what it knows, and how many steps it has made.
+/// A seat at a table, made by `HoldTable::new`. One thread has a seat at a time. Contracts see
+/// which table it belongs to, what it knows, and how many steps it has made.
 #[derive(Drop)]
 pub struct HoldSeat {
     pub(crate) seat: Seat<(), SeatGroup>,

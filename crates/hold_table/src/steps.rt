@@ -1,7 +1,4 @@
-//! The atomic steps on a table. Each is on the word of one drive, and changes what the seat that
-//! makes it knows.
-//!
-//! The word of a drive is the number of the seat that holds it, or 0 if none does.
+//! The atomic steps on the word of one drive.
 ghost use Rattle.std.specs.Prelude.{◌≡◌, ◌<◌, ◌≤◌, ◌↔◌, ◌==◌, true, false, cond, [], IsTrue};
 ghost use Rattle.drives.specs.Holding.{has, taken, given, looked};
 ghost use Rattle.hold_table.specs.Rule.{IsRuledStep};
@@ -29,7 +26,7 @@ impl HoldTable {
             .compare_exchange::<Takes>(&mut seat.seat, drive, 0, seat.number)
     }
 
-    // Sets the drive's word, which is the seat's number, to 0.
+    // Sets the drive's word to 0.
     pub(crate) fn clear(&self, seat: &mut HoldSeat, drive: usize)
         requires seat { IsSeatAt self.now seat.old }
         requires drive { drive < self.now.words }
@@ -40,8 +37,6 @@ impl HoldTable {
         self.table.shared.store::<Gives>(&mut seat.seat, drive, 0);
     }
 
-    // Reads the drive's word in one atomic step, a look: the number of the seat that holds the
-    // drive, or 0 if none does.
     pub(crate) fn read(&self, seat: &mut HoldSeat, drive: usize) -> u64
         requires seat { IsSeatAt self.now seat.old }
         requires drive { drive < self.now.words }

@@ -1,6 +1,4 @@
 //! The table, and its atomic steps.
-//!
-//! The word of a drive is the number of the seat that holds it, or 0 if none does.
 ghost use Rattle.std.specs.Prelude.{◌≡◌, ◌-◌, ◌<◌, ◌≤◌, ◌↔◌, ◌==◌, None, cond, [], ◌∷◌, length, All, IsTrue, IfOk};
 ghost use Rattle.drives.specs.declared.holds.TheConstants.{DRIVE_LIMIT};
 ghost use Rattle.drives.specs.Holding.{has, newcomer, taken, given, looked, found_by, TakeAnswers, HoldsJust};
@@ -14,15 +12,11 @@ use drives::Taken;
 use std::alloc::{AllocError, Global};
 use std::marker::Model;
 
-/// The number of seats that a table has.
+/// The number of seats of a table.
 pub const SEAT_LIMIT: usize = 32;
 
-/// A table of 1 to `DRIVE_LIMIT` drives, which `SEAT_LIMIT` seats share between threads. Each drive
-/// has one word: 0, or the number of the seat that holds it.
-///
-/// Between any two steps the seats' numbers are distinct and from 1 to `SEAT_LIMIT`. Each word is 0
-/// while no seat holds that drive, or n while seat n holds it and no other does. Contracts see
-/// which table it is.
+/// A table of 1 to `DRIVE_LIMIT` drives, which `SEAT_LIMIT` seats share between threads. The seats
+/// that a call gets must be of this table. Contracts see which table it is.
 #[derive(Drop)]
 pub struct HoldTable {
     pub(crate) table: Table<(), SeatGroup, usize, HoldLaw, Global>,
@@ -42,14 +36,11 @@ impl Model for HoldTable {
 }
 
 impl HoldTable {
-    /// Makes a table of the given number of drives, from 1 to `DRIVE_LIMIT`. No seat holds a drive.
-    /// Returns the table with its `SEAT_LIMIT` seats in the order of their numbers, from 1. Fails
-    /// only if an allocation fails.
+    /// Makes a table of 1 to `DRIVE_LIMIT` drives, all free. Returns the table with its
+    /// `SEAT_LIMIT` seats in the order of their numbers, from 1. Fails only if an allocation fails.
     pub fn new(alloc: Global, drives: usize) -> Result<(HoldTable, Vec<HoldSeat>), AllocError>
         requires some { 1 ≤ drives }
         requires few { drives ≤ DRIVE_LIMIT }
-        // The new table has the given number of drives, and no seat holds a drive. `new` also
-        // returns the table's 32 seats, in the order of their numbers. No seat has a witness.
         ensures drives { IfOk result (λ made. made.0.words ≡ drives) }
         ensures seats { IfOk result (λ made. made.1.items ≡ dealt made.0 SEAT_LIMIT) }
         ensures count { IfOk result (λ made. length made.1.items ≡ SEAT_LIMIT) }
@@ -61,8 +52,7 @@ impl HoldTable {
         Ok((table, seats))
     }
 
-    // Makes a table of that many drives, none of them held. Returns it with its first seat, which
-    // has all further numbers to pass on.
+    // Returns a new table with its first seat, which has all further numbers to pass on.
     fn laid(alloc: Global, drives: usize) -> Result<(HoldTable, Seat<(), SeatGroup>), AllocError>
         requires some { 1 ≤ drives }
         requires few { drives ≤ DRIVE_LIMIT }
@@ -75,8 +65,7 @@ impl HoldTable {
         Ok((HoldTable { table }, first))
     }
 
-    // Returns the seats of a new table in the order of their numbers. Each passes the numbers that
-    // are left on to the next.
+    // Each seat passes the numbers that are left on to the next.
     fn deal(&self, alloc: Global, first: Seat<(), SeatGroup>) -> Result<Vec<HoldSeat>, AllocError>
         requires same { first.table_id ≡ self.now }
         requires first { first.me ≡ (seated (newcomer 1) 0 (SEAT_LIMIT - 1) ∷ [], []) }
@@ -103,24 +92,16 @@ impl HoldTable {
         Ok(seats)
     }
 
-    /// Takes drive `drive` for the given seat, if no seat holds the drive. Drives are counted from
-    /// 0. This is one atomic step: if the drive's word is 0, it becomes the seat's number. The seat
-    /// must be one of this table. Returns `Held`, or `Busy` with the number of the seat that holds
-    /// the drive, which may be this one. It does not wait.
+    /// Takes the drive for the given seat, if no seat holds the drive. Returns `Held`, or `Busy`
+    /// with the number of the seat that holds the drive, which may be this one.
     pub fn take(&self, seat: &mut HoldSeat, drive: usize) -> Taken
         requires seat { IsSeatAt self.now seat.old }
         requires drive { drive < self.now.words }
-        // A take is one step. If the drive's word is 0, the word becomes the given seat's number.
-        // Otherwise `take` returns the number in the word, which is at most 32. The hold rule (a
-        // drive's word is 0 or the number of the drive's only holder) is true before and after the
-        // step.
         ensures step { seat.new ≡ next seat.old (taken seat.old.view drive (found_by result)) }
         ensures answer { TakeAnswers result seat.old.view seat.new.view drive }
         ensures known { found_by result ≤ SEAT_LIMIT }
         ensures rule { IsRuledStep drive seat.old.view seat.old.made (found_by result)
             (cond (found_by result == 0) seat.old.view.number (found_by result)) seat.new.view }
-        // The number that `take` finds is the number of the given seat, or of one of its witnesses,
-        // if and only if this seat holds the drive. Only `take_among` gives a seat witnesses.
         ensures beside { IsFound (found_by result) drive (views_among seat.old []) }
     {
         let found = self.claim(seat, drive);
@@ -131,38 +112,25 @@ impl HoldTable {
         }
     }
 
-    /// Gives back drive `drive`, which the given seat must hold. Drives are counted from 0. This is
-    /// one atomic step, which sets the drive's word to 0. The seat must be one of this table. It
-    /// does not wait.
+    /// Gives back the drive, which the given seat must hold.
     pub fn give(&self, seat: &mut HoldSeat, drive: usize)
         requires seat { IsSeatAt self.now seat.old }
         requires drive { drive < self.now.words }
         requires held { IsTrue (has seat.old.view drive) }
-        // A give is one step. The drive's word becomes 0, and the given seat no longer holds the
-        // drive. The hold rule is true before and after the step.
         ensures step { seat.new ≡ next seat.old (given seat.old.view drive) }
         ensures rule { IsRuledStep drive seat.old.view seat.old.made seat.old.view.number 0 seat.new.view }
     {
         self.clear(seat, drive);
     }
 
-    /// Returns the number of the seat that holds drive `drive`, or 0 if no seat holds the drive.
-    /// Drives are counted from 0. This is one atomic step, which reads the drive's word. The seat
-    /// must be one of this table. It does not wait.
+    /// Returns the number of the seat that holds the drive, or 0 if no seat does.
     pub fn holder(&self, seat: &mut HoldSeat, drive: usize) -> u64
         requires seat { IsSeatAt self.now seat.old }
         requires drive { drive < self.now.words }
-        // `holder` makes one step, which reads the drive's word. `holder` returns the number of the
-        // drive's holder (at most 32), or 0 if no seat holds the drive. The hold rule is true
-        // before and after the step.
         ensures step { seat.new ≡ next seat.old (looked seat.old.view drive result) }
         ensures known { result ≤ SEAT_LIMIT }
-        // `holder` returns the given seat's number if and only if the given seat holds the drive.
         ensures mine { result ≡ seat.old.view.number ↔ IsTrue (has seat.old.view drive) }
-        // The hold rule is true before and after the step.
         ensures rule { IsRuledStep drive seat.old.view seat.old.made result result seat.new.view }
-        // `holder` returns the number of the given seat, or of one of its witnesses, if and only if
-        // this seat holds the drive. Only `holder_among` gives a seat witnesses.
         ensures beside { IsFound result drive (views_among seat.old []) }
     {
         self.read(seat, drive)

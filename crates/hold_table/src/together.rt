@@ -1,6 +1,4 @@
 //! Calls with several seats at once, which show that the table keeps the seats apart.
-//!
-//! The word of a drive is the number of the seat that holds it, or 0 if none does.
 ghost use Rattle.std.specs.Prelude.{◌≡◌, ◌≢◌, ℕ, ◌<◌, ◌≤◌, ◌↔◌, ◌∷◌, All, IsTrue, false, slice_index, slice_index_or};
 ghost use Rattle.drives.specs.Holding.{has};
 ghost use Rattle.hold_table.specs.Closing.{IsClosing};
@@ -16,37 +14,25 @@ use drives::DRIVE_LIMIT;
 use std::alloc::Global;
 
 impl HoldTable {
-    /// Shows that two seats of this table have different numbers and hold no drive in common. This
-    /// is true whatever other threads do.
-    ///
-    /// Returns both seats unchanged, with the number of the seat that holds drive `drive`, or 0 if
-    /// none does. Drives are counted from 0. The number is that of one of the two if and only if
-    /// that seat holds the drive.
+    /// Shows that two seats of this table have different numbers and hold no drive in common,
+    /// whatever other threads do. Returns both seats unchanged, with the number in the word of
+    /// drive `drive`, which is that of one of the two if and only if this seat holds the drive.
     ///
     /// Suppose that the last step of one of them found the number of the other. Then that other
-    /// seat holds the drive of that step, or has made two steps or more. Therefore the first take
-    /// at a table never returns `Busy`.
+    /// seat holds the drive of that step, or has made two steps or more. Therefore a take that is
+    /// the first step at a table never returns `Busy`.
     ///
-    /// It makes three atomic steps, which change no word and which the seats do not count. It does
-    /// not wait.
+    /// It makes three atomic steps, which change no word and which the seats do not count.
     pub fn apart(&self, one: HoldSeat, other: HoldSeat, drive: usize) -> (HoldSeat, HoldSeat, u64)
         requires one { IsSeatAt self.now one }
         requires other { IsSeatAt self.now other }
         requires drive { drive < self.now.words }
-        // `apart` returns both seats unchanged, the second one without its witnesses (it has none).
         ensures same { (result.0 ≡ one) × (result.1 ≡ lone other) }
-        // The two seats have different numbers, and hold no drive in common. These two facts are
-        // true of any two seats of a table, whatever other threads do.
         ensures numbers { one.view.number ≢ other.view.number }
         ensures drives { (d : ℕ) → IsTrue (has one.view d) → IsTrue (has other.view d) → ⊥ }
-        // `apart` returns the number in the given drive's word. This number is at most 32. For each
-        // of the two seats, the returned number is the seat's number if and only if the seat holds
-        // the drive.
         ensures known { result.2 ≤ SEAT_LIMIT }
         ensures holder { (result.2 ≡ one.view.number ↔ IsTrue (has one.view drive))
             × (result.2 ≡ other.view.number ↔ IsTrue (has other.view drive)) }
-        // Suppose that the last step of one of the two seats found the other seat's number in a
-        // drive's word. Then the other seat holds this drive, or has made at least two steps.
         ensures found { FoundHolder one.view other.view other.made × FoundHolder other.view one.view one.made }
     {
         let HoldSeat { mut seat, number } = one;
@@ -65,7 +51,6 @@ impl HoldTable {
         (one, other, found)
     }
 
-    // Adds the seat to the group `company`, before the group's own seats.
     fn add_seat(&self, company: &mut Seat<(), SeatGroup>, next: HoldSeat)
         requires company { company.old.table_id ≡ self.now }
         requires next { IsSeatAt self.now next }
@@ -76,7 +61,6 @@ impl HoldTable {
         self.table.shared.join_seat::<Gather>(company, seat);
     }
 
-    // Returns one group of all these seats, in their order.
     fn gathered(&self, mut seats: Vec<HoldSeat>) -> Seat<(), SeatGroup>
         requires seats { All (λ s. IsSeatAt self.now s) seats.items }
         ensures same { result.table_id ≡ self.now }
@@ -89,15 +73,11 @@ impl HoldTable {
         company
     }
 
-    /// Ends the table and returns its words. For each drive that a table can have, the word is the
-    /// number of the seat that holds it, or 0. The `seats` must be seats of this table, and the
-    /// words agree with what they know. Allocates nothing.
+    /// Ends the table and returns its words. All seats must be of this table. A word is the number
+    /// of a passed seat if and only if this seat holds the drive. No clause says that a seat that
+    /// was not passed holds the drive whose word is its number. Allocates nothing.
     pub fn close(self, seats: Vec<HoldSeat>) -> [u64; DRIVE_LIMIT]
         requires seats { All (λ s. IsSeatAt self s) seats.items }
-        // `close` ends the table and returns the words of its drives. `close` shows that the passed
-        // seats have distinct numbers. A drive's word is at most 32. For each passed seat, a
-        // drive's word is the seat's number if and only if the seat holds this drive. If all 32
-        // seats are passed, the word of a drive that no seat holds is 0.
         ensures { IsClosing result seats.items }
     {
         let company = self.gathered(seats);
@@ -109,7 +89,7 @@ impl HoldTable {
     }
 }
 
-// Returns the words of a closed table, and 0 for each drive that it does not have.
+// The words of a closed table, and 0 for each drive that it does not have.
 fn words_of(closed: &Closed<(), Global>) -> [u64; DRIVE_LIMIT]
     requires full { (d : ℕ) → 0 ≤ d → d < closed.now.words.len → IsTrue (slice_index_or closed.now.words.filled d false) }
     requires few { closed.now.words.len ≤ DRIVE_LIMIT }

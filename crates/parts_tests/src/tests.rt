@@ -2,7 +2,6 @@
 
 mod arguments;
 mod folders;
-mod left;
 mod listening;
 mod log_lines;
 mod printing;

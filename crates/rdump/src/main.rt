@@ -6,8 +6,6 @@ use std::io::IsTerminal;
 use std::process::ExitCode;
 
 /// Runs the client with its arguments, and exits with its status.
-///
-/// If standard error is a terminal, it shows the progress of a dump there.
 fn main(rt: HostRuntime) -> ExitCode {
     let stderr = rt.stderr();
     let terminal = stderr.is_terminal().then_some(stderr);

@@ -6,7 +6,7 @@ use Rattle.std.specs.declared.time.Duration.{Duration}
 use Rattle.clap.specs.Words.{Text}
 use Rattle.dumpdates.specs.Entry.{IsName}
 use Rattle.dump_run.specs.Run.{IsDevice}
-use Rattle.address.specs.Address.{IsAddress}
+use Rattle.sockets.specs.Address.{IsAddress}
 use Rattle.rmt_wire.specs.declared.argument.TheConstants.{ARGUMENT_LIMIT}
 use Rattle.rmt_wire.specs.declared.limits.TheConstants.{NUMBER_LIMIT}
 use Rattle.rmt_wire.specs.declared.mtio.TheConstants.{MTNOP}

@@ -22,23 +22,19 @@ pub(crate) enum Form {
     Many,
 }
 
-/// An argument of a command.
 #[derive(Clone, Copy)]
 pub(crate) struct ArgumentSpec {
     /// The name, without dashes.
     pub name: &'static str,
     /// The name of its value in the help.
     pub value: &'static str,
-    /// The text in the help.
     pub help: &'static str,
-    /// How it is given.
     pub form: Form,
     /// The message if it is required and missing.
     pub missing: &'static str,
 }
 
 impl ArgumentSpec {
-    /// The address of the server.
     pub const TO: ArgumentSpec = ArgumentSpec {
         name: "to",
         value: "ADDRESS",
@@ -47,7 +43,6 @@ impl ArgumentSpec {
         missing: "--to is required",
     };
 
-    /// The device of the drive.
     pub const DEVICE: ArgumentSpec = ArgumentSpec {
         name: "device",
         value: "DEVICE",
@@ -56,7 +51,6 @@ impl ArgumentSpec {
         missing: "--device is required",
     };
 
-    /// How long to wait for the server.
     pub const TIMEOUT: ArgumentSpec = ArgumentSpec {
         name: "timeout",
         value: "SECONDS",
@@ -65,7 +59,6 @@ impl ArgumentSpec {
         missing: "",
     };
 
-    /// Whether the argument is required.
     fn is_required(&self) -> bool {
         match self.form {
             Form::Required | Form::Place => true,
@@ -74,7 +67,6 @@ impl ArgumentSpec {
     }
 }
 
-/// Appends a command with these arguments. Fails if an allocation fails.
 pub(crate) fn push_command<'a>(
     alloc: Global,
     (name, about): (&'static str, &'static str),
@@ -87,7 +79,6 @@ pub(crate) fn push_command<'a>(
     }
 }
 
-/// Builds clap's arguments for these, in order. Fails if an allocation fails.
 pub(crate) fn args_of<'a>(
     alloc: Global,
     arguments: &[ArgumentSpec],
@@ -99,7 +90,6 @@ pub(crate) fn args_of<'a>(
     Ok(args)
 }
 
-/// Appends clap's argument for this one. Fails if an allocation fails.
 fn push_arg<'a>(
     alloc: Global,
     argument: &ArgumentSpec,
@@ -134,7 +124,6 @@ fn flag<'a>(alloc: Global, argument: &ArgumentSpec) -> Arg<'a> {
         .action(ArgAction::SetTrue)
 }
 
-/// Builds an argument that has a value.
 fn valued<'a>(alloc: Global, argument: &ArgumentSpec) -> Arg<'a> {
     plain(alloc, argument)
         .value_name(argument.value)
@@ -142,12 +131,11 @@ fn valued<'a>(alloc: Global, argument: &ArgumentSpec) -> Arg<'a> {
         .action(ArgAction::Set)
 }
 
-/// Builds an argument with its text in the help.
 fn plain<'a>(alloc: Global, argument: &ArgumentSpec) -> Arg<'a> {
     Arg::new(alloc, argument.name).help(argument.help)
 }
 
-/// Appends an item to a vector. Fails if an allocation fails, or if making the item failed.
+/// Fails also if making the item failed.
 fn push<T: Drop>(items: &mut Vec<T>, item: Result<T, AllocError>) -> Result<(), AllocError> {
     match item {
         Ok(item) => Ok(items.push(item)?),
@@ -155,8 +143,7 @@ fn push<T: Drop>(items: &mut Vec<T>, item: Result<T, AllocError>) -> Result<(), 
     }
 }
 
-/// Checks that each of these arguments that is required is given. Fails with the message of the
-/// first that is not.
+/// Fails with the message of the first required argument that is missing.
 pub(crate) fn check_given(
     matches: &ArgMatches<'_>,
     arguments: &[ArgumentSpec],

@@ -19,39 +19,32 @@ pub struct CatLine<'a> {
     pub name: Option<&'a str>,
     /// The level of the dump, 0 to 9, or None for any.
     pub level: Option<u8>,
-    /// The date of the dump in seconds since the beginning of 1970 (UTC), or None for any.
+    /// The date of the dump in seconds since the beginning of 1970 (UTC), at most
+    /// 9223372036854775807, or None for any.
     pub date: Option<u64>,
     /// The paths of the catalogs, in the order in which they are given. There may be none.
     pub catalogs: Vec<&'a str>,
-    /// The length of the payload in bytes, or None if it is not given. It is given if there is
-    /// neither a catalog nor `--partial`, and never with a catalog.
+    /// The length of the payload in bytes, at most 9223372036854775807, or None if it is not given.
+    /// It is given if there is neither a catalog nor `--partial`, and never with a catalog.
     pub length: Option<u64>,
     /// Whether a payload is written of which parts are missing.
     pub is_partial: bool,
 }
 
-/// The message if no reel is named.
 const NO_REEL: &str = "a FILE or a FOLDER is required";
 
-/// The message if the length of the payload is not known.
 const NO_LENGTH: &str = "--catalog, --length or --partial is required";
 
-/// The message if the length is given twice.
 const TWO_LENGTHS: &str = "--catalog or --length is given, and not both";
 
-/// The message for a level that no dump can have.
 const BAD_LEVEL: &str = "invalid value for '--level <LEVEL>': a level is one digit, 0 to 9";
 
-/// The message for a date that is not a number.
 const BAD_DATE: &str =
     "invalid value for '--date <SECONDS>': a date is 0 to 253402300799, in digits";
 
-/// The message for a length that is not a number.
 const BAD_LENGTH: &str =
     "invalid value for '--length <BYTES>': the length is 0 to 9223372036854775807, in digits";
 
-/// Returns the command line of `rdump cat` in clap's matches. It allocates for the paths. Fails if
-/// that allocation fails or a value is not valid.
 pub(crate) fn cat_in<'a>(
     alloc: Global,
     matches: &ArgMatches<'a>,
@@ -78,7 +71,6 @@ pub(crate) fn cat_in<'a>(
     })
 }
 
-/// Returns these paths. Fails if there is none, or if an allocation fails.
 fn paths_of<'a>(alloc: Global, paths: &[&'a str]) -> Result<Vec<&'a str>, ArgumentFault>
     ensures { IfOk result (λ paths. 0 < length paths.items) }
 {
@@ -91,7 +83,6 @@ fn paths_of<'a>(alloc: Global, paths: &[&'a str]) -> Result<Vec<&'a str>, Argume
     }
 }
 
-/// Returns the paths of the catalogs that clap's matches name. Fails if an allocation fails.
 fn catalogs_in<'a>(alloc: Global, matches: &ArgMatches<'a>) -> Result<Vec<&'a str>, ArgumentFault> {
     let Some(paths) = matches.get_strs("catalog") else {
         return Ok(Vec::new(alloc));
@@ -102,8 +93,6 @@ fn catalogs_in<'a>(alloc: Global, matches: &ArgMatches<'a>) -> Result<Vec<&'a st
     }
 }
 
-/// Returns the length in a text, if there is a text. Fails if it is no number, if there is a catalog
-/// too, or if there is neither of these and the payload has to be whole.
 #[tactic(auto, unfolding(crate::specs::Rdump::IsOneGiven))]
 fn length_in(
     text: Option<&str>,
@@ -124,7 +113,6 @@ fn length_in(
     }
 }
 
-/// Returns the level in a text, if there is a text. Fails if it is no level.
 pub(crate) fn level_in(text: Option<&str>) -> Result<Option<u8>, ArgumentFault>
     ensures { IfOk result (λ level. IfSome level (λ n. n ≤ 9)) }
 {
@@ -137,7 +125,6 @@ pub(crate) fn level_in(text: Option<&str>) -> Result<Option<u8>, ArgumentFault>
     }
 }
 
-/// Returns the date in a text, if there is a text. Fails if it is no number.
 pub(crate) fn date_in(text: Option<&str>) -> Result<Option<u64>, ArgumentFault>
     ensures { IfOk result (λ date. IfSome date (λ n. n ≤ ARGUMENT_LIMIT)) }
 {
@@ -150,7 +137,6 @@ pub(crate) fn date_in(text: Option<&str>) -> Result<Option<u64>, ArgumentFault>
     }
 }
 
-/// The arguments of `rdump cat`.
 pub(crate) static CAT_ARGUMENTS: [ArgumentSpec; 7] = [
     ArgumentSpec {
         name: "path",

@@ -9,18 +9,13 @@ use crate::rdump_line::RdumpLine;
 use clap::ArgMatches;
 use dumpdates::Entry;
 
-/// The message for a name that no entry can have.
 const BAD_NAME: &str =
     "invalid value for '--name <NAME>': a name is 1 to 255 bytes of printable ASCII without a space";
 
-/// The message for a level that no entry can have.
 const BAD_LEVEL: &str = "invalid value for '--level <LEVEL>': a level is one digit, 0 to 9";
 
-/// The message for a name without a level, or a level without a name.
 const ONE_ALONE: &str = "--name and --level are given together or not at all";
 
-/// Returns the command line of `rdump dates` in clap's matches. Fails if only one of the name and
-/// the level is given, or if no entry can have it.
 pub(crate) fn dates_in<'a>(matches: &ArgMatches<'a>) -> Result<RdumpLine<'a>, ArgumentFault>
     ensures { IfOk result IsRdumpLine }
 {
@@ -33,8 +28,6 @@ pub(crate) fn dates_in<'a>(matches: &ArgMatches<'a>) -> Result<RdumpLine<'a>, Ar
     }
 }
 
-/// Returns the name and the level to look for, if both are given. Fails if only one is given, or if
-/// no entry can have it.
 fn asked<'a>(
     name: Option<&'a str>,
     level: Option<&str>,
@@ -53,7 +46,6 @@ fn asked<'a>(
     }
 }
 
-/// Returns the level in this text, which must be exactly one digit.
 pub(crate) fn level_of(argument: &str) -> Option<u8>
     ensures value { IfSome result (λ n. (n ≤ 9) × (argument.now ≡ (48 + n) ∷ [])) }
     ensures given { (n : ℕ) → n ≤ 9 → argument.now ≡ (48 + n) ∷ [] → IsSome result }
@@ -64,14 +56,12 @@ pub(crate) fn level_of(argument: &str) -> Option<u8>
     }
 }
 
-/// Whether an entry can have this name.
 fn is_name(name: &str) -> bool
     ensures { IsTrue result ↔ IsName name.now }
 {
     Entry::new(name, 0, 0).is_some()
 }
 
-/// The arguments of `rdump dates`.
 pub(crate) static DATES_ARGUMENTS: [ArgumentSpec; 3] = [
     ArgumentSpec {
         name: "file",

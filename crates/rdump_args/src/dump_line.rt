@@ -16,8 +16,8 @@ use std::time::Duration;
 /// The payload that stands for standard input.
 pub const STANDARD_INPUT: &str = "-";
 
-/// The parsed arguments of `rdump dump`. Whether a run can have this device, name, level, block size
-/// and date is not checked here; each of these numbers is 0 to 9223372036854775807.
+/// The parsed arguments of `rdump dump`. Whether a run can have this device, name, level, block
+/// size and date is not checked here; each of these numbers is 0 to 9223372036854775807.
 #[derive(Clone, Copy, Debug)]
 pub struct DumpLine<'a> {
     /// The address that the server listens at: a host and a port, or `unix:` and a path.
@@ -32,11 +32,10 @@ pub struct DumpLine<'a> {
     pub level: u64,
     /// The path of the payload, or `STANDARD_INPUT`.
     pub payload: &'a str,
-    /// The path of the folder that standard input is read into, or None to take that of `dumpdates`.
-    /// It is given only if the payload is standard input and there is no checkpoint.
+    /// The path of the folder that standard input is read into, or None to take that of
+    /// `dumpdates`. It is given only if the payload is standard input and there is no checkpoint.
     pub spool: Option<&'a str>,
-    /// Whether standard input may be without a byte. It is true only if the payload is standard
-    /// input.
+    /// Whether standard input may be without a byte. True only if the payload is standard input.
     pub allow_empty: bool,
     /// The size of a block in bytes.
     pub block: u64,
@@ -52,33 +51,25 @@ pub struct DumpLine<'a> {
     pub update: bool,
     /// Whether each attempt first looks at the reel, and never writes on a reel of another dump.
     pub protect: bool,
-    /// How many failures in a row are answered by another attempt, up to `MOST_RETRIES`, or None to
+    /// How many failures in a row are answered by another attempt, 1 to `MOST_RETRIES`, or None to
     /// ask the operator.
     pub retry: Option<u32>,
     /// How long to wait before such an attempt, up to `MOST_PAUSE` seconds.
     pub pause: Duration,
 }
 
-/// The message for a level that is not a number.
 const BAD_LEVEL: &str = "invalid value for '--level <LEVEL>': a level is 0 to 9, in digits";
 
-/// The message for a block size that is not a number.
 const BAD_BLOCK: &str =
     "invalid value for '--block <BYTES>': a block is 1 to 262144 bytes, in digits";
 
-/// The message for a date that is not a number.
 const BAD_DATE: &str =
     "invalid value for '--date <SECONDS>': a date is 0 to 253402300799, in digits";
 
-/// The message for arguments about standard input, if something else is dumped.
 const INPUT_ALONE: &str = "--spool and --allow-empty are given with --payload - only";
 
-/// The message if standard input has two places to be kept in.
 const TWO_PLACES: &str = "--spool or --checkpoint is given, and not both";
 
-/// Returns the command line of `rdump dump` in clap's matches. Fails if the address is not valid,
-/// if an argument that must be a number is not one, or if an argument is given that the payload
-/// rules out.
 pub(crate) fn dump_in<'a>(matches: &ArgMatches<'a>) -> Result<RdumpLine<'a>, ArgumentFault>
     ensures { IfOk result IsRdumpLine }
 {
@@ -118,9 +109,6 @@ pub(crate) fn dump_in<'a>(matches: &ArgMatches<'a>) -> Result<RdumpLine<'a>, Arg
     }
 }
 
-/// Returns the folder that standard input is read into, if one is given. Fails if a folder is given,
-/// or that there may be no byte, and the payload is not standard input. Fails if a folder and a
-/// checkpoint are given.
 fn spool_of<'a>(
     spool: Option<&'a str>,
     payload: &str,
@@ -138,8 +126,6 @@ fn spool_of<'a>(
     Ok(spool)
 }
 
-/// Returns the numbers in these texts: the level, the size of a block, and the date if one is
-/// given. Fails if a text is not a number.
 fn numbers_in(
     level: &str,
     block: &str,
@@ -160,7 +146,7 @@ fn numbers_in(
     }
 }
 
-/// Returns the date in this text, if there is a text. None if the text is not a number.
+/// The outer None means that the text is not a number.
 fn date_in(text: Option<&str>) -> Option<Option<u64>>
     ensures { IfSome result (λ date. IfSome date (λ n. n ≤ ARGUMENT_LIMIT)) }
 {
@@ -170,7 +156,6 @@ fn date_in(text: Option<&str>) -> Option<Option<u64>>
     }
 }
 
-/// The arguments of `rdump dump`.
 pub(crate) static DUMP_ARGUMENTS: [ArgumentSpec; 17] = [
     ArgumentSpec::TO,
     ArgumentSpec::DEVICE,

@@ -1,6 +1,6 @@
 //! The arguments of `rdump fetch`.
 ghost use Rattle.std.specs.Prelude.{IfOk};
-ghost use Rattle.address.specs.Address.{IsAddress};
+ghost use Rattle.sockets.specs.Address.{IsAddress};
 ghost use Rattle.rdump_args.specs.Rdump.{IsFetchLine};
 
 use crate::argument::{ArgumentSpec, Form, value_in};
@@ -25,8 +25,6 @@ pub struct FetchLine<'a> {
     pub catalog: Option<&'a str>,
 }
 
-/// Returns the command line of `rdump fetch` in clap's matches. Fails if the address or the device
-/// is not valid, or the limit is not a number.
 pub(crate) fn fetch_in<'a>(matches: &ArgMatches<'a>) -> Result<FetchLine<'a>, ArgumentFault>
     ensures { IfOk result (λ line. IsFetchLine line × IsAddress line.to.now) }
 {
@@ -41,7 +39,6 @@ pub(crate) fn fetch_in<'a>(matches: &ArgMatches<'a>) -> Result<FetchLine<'a>, Ar
     })
 }
 
-/// The arguments of `rdump fetch`.
 pub(crate) static FETCH_ARGUMENTS: [ArgumentSpec; 5] = [
     ArgumentSpec::TO,
     ArgumentSpec::DEVICE,

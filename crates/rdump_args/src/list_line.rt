@@ -37,7 +37,8 @@ pub struct WantedDumps<'a> {
     pub name: Option<&'a str>,
     /// The level, 0 to 9, or None for any.
     pub level: Option<u8>,
-    /// The date in seconds since the beginning of 1970 (UTC), or None for any.
+    /// The date in seconds since the beginning of 1970 (UTC), at most 9223372036854775807, or None
+    /// for any.
     pub date: Option<u64>,
 }
 
@@ -58,27 +59,19 @@ pub enum ListedReels<'a> {
     },
 }
 
-/// The message if no reel is named.
 const NO_REEL: &str = "a FILE or a FOLDER is required, or --to and --device";
 
-/// The message if both paths and a drive are named.
 const BOTH_KINDS: &str = "a FILE or a FOLDER is given, or --to and --device, and not both";
 
-/// The message for an address without a device, or a device without an address.
 const HALF_A_DRIVE: &str = "--to and --device are given together or not at all";
 
-/// The message for a number of blocks without a dumpdates file.
 const BLOCKS_ALONE: &str = "--blocks is given with --dumpdates only";
 
-/// The message for dumps that are named without a catalog.
 const DUMPS_ALONE: &str = "--fs, --level and --date are given with --catalog only";
 
-/// The message for a number of blocks that is not valid.
 const BAD_BLOCKS: &str =
     "invalid value for '--blocks <N>': a dump has 0 to 2147483647 blocks, in digits";
 
-/// Returns the command line of `rdump ls` in clap's matches. It allocates for the paths. Fails if
-/// that allocation fails or a rule of the arguments is broken.
 pub(crate) fn list_in<'a>(
     alloc: Global,
     matches: &ArgMatches<'a>,
@@ -100,8 +93,6 @@ pub(crate) fn list_in<'a>(
     }
 }
 
-/// Returns the dumps that the arguments name, or None if they name none. Fails if there is no
-/// catalog, or if a level or a date is not valid.
 fn wanted_in<'a>(matches: &ArgMatches<'a>) -> Result<Option<WantedDumps<'a>>, ArgumentFault>
     ensures { IfOk result (λ wanted. IfSome wanted IsWantedDumps) }
 {
@@ -117,8 +108,6 @@ fn wanted_in<'a>(matches: &ArgMatches<'a>) -> Result<Option<WantedDumps<'a>>, Ar
     Ok(Some(WantedDumps { name, level, date }))
 }
 
-/// Returns the number of blocks in `text`, if there is a text. Fails if it is not a number up to
-/// `NUMBER_LIMIT`, or if there is no dumpdates file.
 fn blocks_of(text: Option<&str>, dumpdates: Option<&str>) -> Result<Option<u64>, ArgumentFault>
     ensures { IfOk result (λ blocks. IfSome blocks (λ n. (n ≤ NUMBER_LIMIT) × IsSome dumpdates.entry)) }
 {
@@ -132,7 +121,6 @@ fn blocks_of(text: Option<&str>, dumpdates: Option<&str>) -> Result<Option<u64>,
     }
 }
 
-/// Returns the reels that clap's matches name.
 fn reels_in<'a>(alloc: Global, matches: &ArgMatches<'a>) -> Result<ListedReels<'a>, ArgumentFault>
     ensures { IfOk result IsListedReels }
 {
@@ -144,8 +132,6 @@ fn reels_in<'a>(alloc: Global, matches: &ArgMatches<'a>) -> Result<ListedReels<'
     }
 }
 
-/// Returns the reels that these paths name, or the one of this address and device. Fails if neither
-/// is given, or both are.
 fn reels_of<'a>(
     alloc: Global,
     paths: &[&'a str],
@@ -163,8 +149,6 @@ fn reels_of<'a>(
     }
 }
 
-/// Returns the first reel of a drive at this server, with the limit in the text `timeout`, if there
-/// is a text. Fails if the address, the device or the limit is not valid.
 fn drive_reel<'a>(
     to: &'a str,
     device: &'a str,
@@ -181,7 +165,6 @@ fn drive_reel<'a>(
     })
 }
 
-/// Returns the reels at these paths. Fails if an allocation fails.
 fn path_reels<'a>(alloc: Global, paths: &[&'a str]) -> Result<ListedReels<'a>, ArgumentFault>
     requires { 0 < length paths.now }
     ensures { IfOk result IsListedReels }
@@ -192,7 +175,6 @@ fn path_reels<'a>(alloc: Global, paths: &[&'a str]) -> Result<ListedReels<'a>, A
     }
 }
 
-/// The arguments of `rdump ls`.
 pub(crate) static LIST_ARGUMENTS: [ArgumentSpec; 10] = [
     ArgumentSpec {
         name: "path",

@@ -1,6 +1,6 @@
 //! The arguments of `rdump mt`.
 ghost use Rattle.std.specs.Prelude.{◌≤◌, IfOk, IfSome};
-ghost use Rattle.address.specs.Address.{IsAddress};
+ghost use Rattle.sockets.specs.Address.{IsAddress};
 ghost use Rattle.rdump_args.specs.Rdump.{IsMtLine};
 
 use crate::argument::{ArgumentSpec, Form, value_in};
@@ -28,15 +28,11 @@ pub struct MtLine<'a> {
     pub count: u32,
 }
 
-/// The message for a name that is no operation.
 const BAD_OP: &str =
     "invalid value for '<OP>': it is one of weof, fsf, bsf, fsr, bsr, rewind, offline, nop";
 
-/// The message for a count that is not valid.
 const BAD_COUNT: &str = "invalid value for '<COUNT>': a count is 0 to 2147483647 in digits";
 
-/// Returns the command line of `rdump mt` in clap's matches. Fails if the address, the device, the
-/// operation or the count is not valid.
 pub(crate) fn mt_in<'a>(matches: &ArgMatches<'a>) -> Result<MtLine<'a>, ArgumentFault>
     ensures { IfOk result (λ line. IsMtLine line × IsAddress line.to.now) }
 {
@@ -54,8 +50,6 @@ pub(crate) fn mt_in<'a>(matches: &ArgMatches<'a>) -> Result<MtLine<'a>, Argument
     }
 }
 
-/// Returns the number of the operation of this name, and the count in this text. Fails if one of
-/// them is not valid.
 fn operation_of(op: &str, count: &str) -> Result<(u32, u32), ArgumentFault>
     ensures { IfOk result (λ found. (found.0 ≤ MTNOP) × (found.1 ≤ NUMBER_LIMIT)) }
 {
@@ -85,7 +79,6 @@ fn op_of(argument: &str) -> Option<u32>
     }
 }
 
-/// Returns the count in this text, or None if it is not a number up to `NUMBER_LIMIT`.
 fn count_of(text: &str) -> Option<u32>
     ensures { IfSome result (λ n. n ≤ NUMBER_LIMIT) }
 {
@@ -96,7 +89,6 @@ fn count_of(text: &str) -> Option<u32>
     Some(number as u32)
 }
 
-/// The arguments of `rdump mt`.
 pub(crate) static MT_ARGUMENTS: [ArgumentSpec; 5] = [
     ArgumentSpec::TO,
     ArgumentSpec::DEVICE,

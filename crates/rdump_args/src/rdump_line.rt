@@ -55,43 +55,21 @@ pub enum RdumpLine<'a> {
 /// - `read --to ADDRESS --device D [--timeout SECONDS] --out FILE`
 /// - `fetch --to ADDRESS --device D [--timeout SECONDS] --into FOLDER [--catalog FILE]`
 /// - `cat [--catalog FILE]... [--length BYTES] [--partial] [--fs NAME] [--level LEVEL] [--date
-///   SECONDS] FILE|FOLDER...`; one of these three is given, and not both of the first two
+///   SECONDS] FILE|FOLDER...`; `--catalog`, `--length` or `--partial` is given, and not both
+///   `--catalog` and `--length`
 /// - `ls FILE|FOLDER... [--dumpdates FILE [--blocks N]] [--catalog FILE [--fs NAME] [--level LEVEL]
 ///   [--date SECONDS]]`
-/// - `ls --to ADDRESS --device D [--timeout SECONDS] [--dumpdates FILE [--blocks N]] [--catalog FILE
-///   [--fs NAME] [--level LEVEL] [--date SECONDS]]`
+/// - `ls --to ADDRESS --device D [--timeout SECONDS] [--dumpdates FILE [--blocks N]] [--catalog
+///   FILE [--fs NAME] [--level LEVEL] [--date SECONDS]]`
 /// - `mt --to ADDRESS --device D [--timeout SECONDS] OP COUNT`
 /// - `dates --file FILE [--name NAME --level LEVEL]`
+///
+/// The values are within the limits that the fields of the result state. Each address is valid, as
+/// `sockets::is_address` decides.
 ///
 /// Fails if the arguments are bad, if they ask for help or the version, or if an allocation fails.
 /// The error's kind says which, and its text is for the user.
 pub fn rdump_args<'a, S: AsStr>(alloc: Global, arguments: &'a [S]) -> Result<RdumpLine<'a>, Error>
-    // All these promises are about the arguments that `rdump_args` returns. The arguments of the
-    // commands `dump`, `read`, `fetch` and `mt` contain an address. The arguments of an `ls` that
-    // lists a drive contain an address too. Each of these addresses is valid: `is_address` of the
-    // crate `address` returns true for the address.
-    //
-    // For `mt`, the operation is one of the eight operations in `rmt_wire::mtio`, and the count is
-    // at most 2147483647. For `mt`, `read` and `fetch`, and for an `ls` that lists a drive, the
-    // device has 1 to 255 bytes and no line feed.
-    //
-    // For `ls`, the arguments name either one or more paths, or a drive, but not both. If the
-    // arguments contain a number of blocks, the arguments name a dumpdates file too. The number of
-    // blocks is at most 2147483647. The level of the dumps to look for, if given, is at most 9, and
-    // their date is at most 9223372036854775807.
-    //
-    // For `cat`, the arguments name one or more paths. They never contain both a length and a
-    // catalog, and they contain one of them unless `--partial` is given. The level, if given, is at
-    // most 9. The date and the length, if given, are at most 9223372036854775807.
-    //
-    // For `dump`, the level, the block size and the date, if given, are at most
-    // 9223372036854775807. The number of failures in a row that are answered by another attempt, if
-    // given, is 1 to 1000000, and the pause before such an attempt is at most 86400 seconds. A folder
-    // for standard input is given only if the payload is `-`, and never with a checkpoint. That
-    // standard input may be without a byte is given only if the payload is `-`.
-    //
-    // If the arguments of `dates` contain a name and a level, both are valid in an entry of
-    // dumpdates.
     ensures { IfOk result IsRdumpLine }
 {
     match rdump_command(alloc) {
@@ -100,7 +78,6 @@ pub fn rdump_args<'a, S: AsStr>(alloc: Global, arguments: &'a [S]) -> Result<Rdu
     }
 }
 
-/// Returns the line that the arguments give to this command.
 fn line_of<'a, S: AsStr>(
     alloc: Global,
     rdump: &mut Command<'a>,
@@ -114,8 +91,6 @@ fn line_of<'a, S: AsStr>(
     }
 }
 
-/// Returns the command line in clap's matches. If they break a rule, fails with the error for the
-/// user.
 fn matched<'a>(alloc: Global, matches: &ArgMatches<'a>) -> Result<RdumpLine<'a>, Error>
     ensures { IfOk result IsRdumpLine }
 {
@@ -125,7 +100,6 @@ fn matched<'a>(alloc: Global, matches: &ArgMatches<'a>) -> Result<RdumpLine<'a>,
     }
 }
 
-/// Returns the name of the command in clap's matches, or an empty text if there is none.
 fn name_in<'a>(matches: &ArgMatches<'a>) -> &'a str {
     match matches.subcommand() {
         Some((name, _)) => name,
@@ -138,14 +112,11 @@ fn name_in<'a>(matches: &ArgMatches<'a>) -> &'a str {
 ///
 /// The error's kind is `ValueValidation`. Fails if an allocation fails.
 pub fn dump_error(alloc: Global, text: &str) -> Result<Error, AllocError>
-    // The returned error has the kind `ValueValidation`. Tests check the text of the error.
     ensures { IfOk result (λ error. kind_of error ≡ ValueValidation) }
 {
     error_of(alloc, "dump", ErrorKind::ValueValidation, text)
 }
 
-/// Returns an error of this kind for the command of this name: this text, and the usage of the
-/// command. Fails if an allocation fails.
 fn error_of(alloc: Global, name: &str, kind: ErrorKind, text: &str) -> Result<Error, AllocError>
     ensures { IfOk result (λ error. kind_of error ≡ kind) }
 {
@@ -154,7 +125,6 @@ fn error_of(alloc: Global, name: &str, kind: ErrorKind, text: &str) -> Result<Er
     command.error(kind, text)
 }
 
-/// Returns the full name of a command for the usage.
 fn whole_name(name: &str) -> &'static str {
     match name {
         "dump" => "rdump dump",
@@ -168,8 +138,6 @@ fn whole_name(name: &str) -> &'static str {
     }
 }
 
-/// Returns the command line in clap's matches. Fails if a required argument is missing or a rule is
-/// broken.
 fn line_in<'a>(alloc: Global, matches: &ArgMatches<'a>) -> Result<RdumpLine<'a>, ArgumentFault>
     ensures { IfOk result IsRdumpLine }
 {
@@ -182,8 +150,6 @@ fn line_in<'a>(alloc: Global, matches: &ArgMatches<'a>) -> Result<RdumpLine<'a>,
     }
 }
 
-/// Returns the command line of the command `name`, whose arguments are in clap's matches. The
-/// required ones are given. Fails if a rule is broken or no command has that name.
 fn named_in<'a>(
     alloc: Global,
     name: &str,
@@ -203,7 +169,6 @@ fn named_in<'a>(
     }
 }
 
-/// Builds the command `rdump` with all of its arguments.
 fn rdump_command<'a>(alloc: Global) -> Result<Command<'a>, AllocError> {
     match commands(alloc) {
         Ok(commands) => named(alloc).subcommands(commands),
@@ -220,7 +185,6 @@ fn named<'a>(alloc: Global) -> Command<'a> {
         .arg_required_else_help(true)
 }
 
-/// Builds the commands of `rdump`, in the order of the help.
 fn commands<'a>(alloc: Global) -> Result<Vec<Command<'a>>, AllocError> {
     let mut commands = Vec::new(alloc);
     for said in &COMMANDS {
@@ -261,7 +225,6 @@ static COMMANDS: [(&str, &str); 7] = [
     ),
 ];
 
-/// Returns the arguments of the command of this name.
 fn arguments_of(name: &str) -> &'static [ArgumentSpec] {
     match name {
         "dump" => &DUMP_ARGUMENTS,

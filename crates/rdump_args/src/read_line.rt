@@ -1,6 +1,6 @@
 //! The arguments of `rdump read`.
 ghost use Rattle.std.specs.Prelude.{IfOk};
-ghost use Rattle.address.specs.Address.{IsAddress};
+ghost use Rattle.sockets.specs.Address.{IsAddress};
 ghost use Rattle.rdump_args.specs.Rdump.{IsReadLine};
 
 use crate::argument::{ArgumentSpec, Form, value_in};
@@ -23,8 +23,6 @@ pub struct ReadLine<'a> {
     pub out: &'a str,
 }
 
-/// Returns the command line of `rdump read` in clap's matches. Fails if the address or the device
-/// is not valid, or the limit is not a number.
 pub(crate) fn read_in<'a>(matches: &ArgMatches<'a>) -> Result<ReadLine<'a>, ArgumentFault>
     ensures { IfOk result (λ line. IsReadLine line × IsAddress line.to.now) }
 {
@@ -38,7 +36,6 @@ pub(crate) fn read_in<'a>(matches: &ArgMatches<'a>) -> Result<ReadLine<'a>, Argu
     })
 }
 
-/// The arguments of `rdump read`.
 pub(crate) static READ_ARGUMENTS: [ArgumentSpec; 4] = [
     ArgumentSpec::TO,
     ArgumentSpec::DEVICE,

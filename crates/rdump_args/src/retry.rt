@@ -17,15 +17,11 @@ pub const MOST_PAUSE: u64 = 86_400;
 /// The pause if none is given, in seconds.
 const USUAL_PAUSE: u64 = 60;
 
-/// The message for a number of attempts that is not valid.
 const BAD_RETRY: &str = "invalid value for '--retry <TIMES>': it is 1 to 1000000, in digits";
 
-/// The message for a pause that is not valid.
 const BAD_PAUSE: &str =
     "invalid value for '--pause <SECONDS>': a pause is 0 to 86400 seconds, in digits";
 
-/// Returns how many failures in a row are answered by another attempt, if there is a text. Fails if
-/// the text is not a number from 1 to `MOST_RETRIES`.
 pub(crate) fn retry_of(text: Option<&str>) -> Result<Option<u32>, ArgumentFault>
     ensures { IfOk result (λ retry. IfSome retry (λ n. (0 < n) × (n ≤ MOST_RETRIES))) }
 {
@@ -38,8 +34,6 @@ pub(crate) fn retry_of(text: Option<&str>) -> Result<Option<u32>, ArgumentFault>
     }
 }
 
-/// Returns the pause that a text states as a number of seconds, or `USUAL_PAUSE` if there is no
-/// text. Fails if the text is not a number up to `MOST_PAUSE`.
 pub(crate) fn pause_of(text: Option<&str>) -> Result<Duration, ArgumentFault>
     ensures limit { IfOk result (λ pause. as_nanos pause ≤ MOST_PAUSE * 1_000_000_000) }
     ensures value { IfOk result (λ pause. MatchOption text.entry (as_nanos pause ≡ USUAL_PAUSE * 1_000_000_000)

@@ -7,15 +7,12 @@ use crate::fault::ArgumentFault;
 use rmt_wire::argument::number_of;
 use std::time::Duration;
 
-/// The message for a limit that is not a number.
 const BAD_TIMEOUT: &str =
     "invalid value for '--timeout <SECONDS>': a number is 0 to 9223372036854775807 in digits";
 
-/// Returns the time limit that a text states as a number of seconds. None is no limit: there is no
-/// text, or the number is 0. Fails if the text is not a number.
+/// Returns the limit that a text states in seconds. None is no limit: there is no text, or the
+/// number is 0.
 pub(crate) fn timeout_of(text: Option<&str>) -> Result<Option<Duration>, ArgumentFault>
-    // If there is a text, the limit is the number of seconds in the text. If this number is 0, or
-    // if there is no text, the limit is None.
     ensures { IfOk result (λ limit. MatchOption text.entry (limit ≡ None) (λ given. IsLimit (digits_value 10 given.now) limit)) }
 {
     let Some(text) = text else {
@@ -27,7 +24,6 @@ pub(crate) fn timeout_of(text: Option<&str>) -> Result<Option<Duration>, Argumen
     }
 }
 
-/// Returns the limit of this many seconds. It is None for 0.
 fn limit_of(seconds: u64) -> Option<Duration>
     ensures { IsLimit seconds result }
 {

@@ -1,7 +1,7 @@
 -- The exit statuses of `rdump cat`. Public contracts cite it.
 use Rattle.std.specs.Prelude.{Bool, true, false, Result, Ok, Err}
-use Rattle.exit_status.specs.declared.status.ExitStatus.{ExitStatus}
-use Rattle.exit_status.specs.declared.status.ExitStatus.TheVariants.{Success, StartupError, Abnormal}
+use Rattle.console.specs.declared.status.ExitStatus.{ExitStatus}
+use Rattle.console.specs.declared.status.ExitStatus.TheVariants.{Success, StartupError, Abnormal}
 use Rattle.restore.specs.declared.fault.Refusal.{Refusal}
 use Rattle.restore.specs.declared.fault.Refusal.TheVariants.{OutOfMemory, Unreadable, NoVolume, TwoDumps, TwoReels, TwoSizes, Missing, MoreVolumes, Displaced, OtherLength}
 use Rattle.restore.specs.declared.fault.RestoreFault.{RestoreFault}

@@ -1,22 +1,22 @@
 //! The command `rdump cat`.
+ghost use Rattle.std.specs.Prelude.{◌≡◌, length};
+
+use crate::cat_fault::CatFault;
 use crate::catalog_files::read_catalogs;
-use crate::dumps::{dumps_of, print_dumps};
+use crate::dumps::dumps_of;
 use crate::file_shelf::FileShelf;
 use crate::knowing::{KnownTwice, catalog_of};
-use crate::known_dump::{finished_line, wanted_of};
+use crate::known_dump::{NotKnown, finished_line, wanted_of};
 use crate::known_parts::parts_of;
 use crate::outcome::{status_of, status_of_parts};
-use crate::report::{
-    print_changed, print_gaps, print_known_twice, print_no_dump, print_no_volume, print_not_known,
-    print_refusal, print_unreadable, print_unwritten,
-};
 use crate::watched::Watched;
-use exit_status::ExitStatus;
+use catalog::Catalog;
+use console::ExitStatus;
+use dump_run::DumpId;
 use rdump_args::CatLine;
 use rdump_list::{ListSystem, ReelPath, ReelPaths};
 use restore::{Refusal, RestoreFault, Wanted, restore, restore_partial};
 use rmt_wire::Counted;
-use std::alloc::AllocError;
 use std::io::{self, Write};
 
 /// Runs `rdump cat`: checks the record files, chooses the volumes of one dump, and writes its
@@ -25,7 +25,7 @@ use std::io::{self, Write};
 ///
 /// With a catalog, the reels must have all volumes of a dump that the catalog has as finished, and
 /// the sum of each must be that of the line in force. Other reels of the dump are set aside, each
-/// named on standard error. Of several catalogs only one may have lines of the dump.
+/// named on standard error. If several catalogs are given, only one may have lines of the dump.
 ///
 /// With `is_partial` it writes what the reels have, with zero bytes for each block that is missing,
 /// and prints the numbers of these blocks. It then never succeeds. The length is that with which
@@ -34,14 +34,14 @@ use std::io::{self, Write};
 ///
 /// Returns the exit status:
 ///
-/// - `Success` if the whole payload was written. Also if the reader of standard output closed it
+/// - `Success` if the whole payload was written, or if the reader of standard output closed it
 ///   before: the reels were checked, and the reader wanted no more.
-/// - `StartupError` if a file cannot be read, a catalog is not valid, the files have volumes of more
-///   than one dump that is wanted, two catalogs have lines of the dump, an allocation fails, or
-///   standard output cannot be written.
-/// - `Abnormal` if a volume is missing, or the files are not those of one dump with a payload of
-///   this length, or the catalog does not have the dump as finished. Nothing was written then. Also
-///   if a file was changed after it was checked, and for each payload of which parts may be missing.
+/// - `StartupError` if a file cannot be read, a catalog is not valid, the files have volumes of
+///   more than one dump that is wanted, two catalogs have lines of the dump, an allocation fails,
+///   or standard output cannot be written.
+/// - `Abnormal` if a volume is missing, the volumes do not fit together or have another length, or
+///   no catalog has the dump as finished. Nothing was written then. Also if a file was changed
+///   after it was checked, and with `is_partial` after each payload.
 ///
 /// Errors are printed on standard error.
 pub fn run_cat<R: ListSystem, T: Write + Drop>(
@@ -49,196 +49,135 @@ pub fn run_cat<R: ListSystem, T: Write + Drop>(
     line: &CatLine<'_>,
     terminal: Option<T>,
 ) -> ExitStatus {
-    match cat(rt, line, terminal) {
-        Ok(status) => status,
-        Err(AllocError) => {
-            let _ = eprintln!(rt; "rdump: out of memory");
-            ExitStatus::StartupError
-        }
-    }
-}
-
-/// Writes the payload, and returns the exit status. Fails if an allocation fails.
-fn cat<R: ListSystem, T: Write + Drop>(
-    rt: &R,
-    line: &CatLine<'_>,
-    terminal: Option<T>,
-) -> Result<ExitStatus, AllocError> {
-    let Some(paths) = paths_of(rt, &line.paths)? else {
-        return Ok(ExitStatus::StartupError);
-    };
-    let wanted = Wanted {
-        name: line.name,
-        level: line.level,
-        date: line.date,
-        length: line.length.unwrap_or(0),
-        volumes: None,
-        lines: None,
-    };
-    let run = CatRun {
+    let mut cat = Cat {
         rt,
-        paths: &paths,
-        is_partial: line.is_partial,
+        line,
+        reels: Vec::new(rt.alloc()),
     };
-    if !line.catalogs.is_empty() {
-        run.by_catalogs(&line.catalogs, &wanted, terminal)
-    } else if line.is_partial {
-        run.write_parts(&wanted, line.length, terminal)
-    } else {
-        run.by_length(&wanted, terminal)
+    match cat.run(terminal) {
+        Ok(()) => ExitStatus::Success,
+        Err(fault) => fault.report(rt, &cat.reels),
     }
 }
 
-/// One run of the command.
-#[derive(Clone, Copy)]
-struct CatRun<'a, R: ListSystem> {
+#[derive(Drop)]
+struct Cat<'a, R: ListSystem> {
     rt: &'a R,
-    /// The record files.
-    paths: &'a [ReelPath],
-    /// Whether parts of the payload may be missing.
-    is_partial: bool,
+    line: &'a CatLine<'a>,
+    reels: Vec<ReelPath>,
 }
 
-impl<R: ListSystem> CatRun<'_, R> {
-    /// Writes the payload of the length that is wanted, and returns the exit status. If it succeeds,
-    /// it prints what it cannot know. Fails if an allocation fails.
-    fn by_length<T: Write + Drop>(
-        &self,
-        wanted: &Wanted<'_>,
-        terminal: Option<T>,
-    ) -> Result<ExitStatus, AllocError> {
-        let status = self.write_payload(wanted, terminal)?;
-        if status == ExitStatus::Success {
-            let _ = eprintln!(self.rt;
+impl<'a, R: ListSystem> Cat<'a, R> {
+    fn run<T: Write + Drop>(&mut self, terminal: Option<T>) -> Result<(), CatFault<'a>> {
+        let (rt, line) = (self.rt, self.line);
+        self.find_reels()?;
+        let catalogs = read_catalogs(rt, &line.catalogs)?;
+        let asked = Wanted {
+            name: line.name,
+            level: line.level,
+            date: line.date,
+            length: line.length.unwrap_or(0),
+            volumes: None,
+            lines: None,
+        };
+        if catalogs.is_empty() {
+            self.write(&asked, line.length, terminal)?;
+            let _ = eprintln!(rt;
                 "rdump: without a catalog: two payloads of one name, level and dates look alike"
             );
+            return Ok(());
         }
-        Ok(status)
+        let id = self.dump(&asked)?;
+        let wanted = known(line, &catalogs, &id)?;
+        self.write(&wanted, Some(wanted.length), terminal)
     }
 
-    /// Writes the payload of the dump that the reels have, if one of the catalogs at these paths, and
-    /// only one, has lines of it. Returns the exit status. Fails if an allocation fails.
-    fn by_catalogs<T: Write + Drop>(
-        &self,
-        paths: &[&str],
-        wanted: &Wanted<'_>,
-        terminal: Option<T>,
-    ) -> Result<ExitStatus, AllocError> {
-        let Some(catalogs) = read_catalogs(self.rt, paths)? else {
-            return Ok(ExitStatus::StartupError);
-        };
-        let Some(dumps) = dumps_of(self.rt, self.paths, wanted)? else {
-            return Ok(ExitStatus::StartupError);
-        };
-        let id = match dumps.as_slice() {
-            [] => return Ok(print_no_volume(self.rt)),
-            [id] => id,
-            dumps => return print_dumps(self.rt, dumps),
-        };
-        let number = match catalog_of(&catalogs, id) {
-            Ok(Some(number)) => number,
-            Ok(None) => return Ok(print_no_dump(self.rt, paths)),
-            Err(KnownTwice { first, second }) => {
-                return print_known_twice(self.rt, paths[first], paths[second], id);
+    fn find_reels(&mut self) -> Result<(), CatFault<'a>> {
+        let mut named = ReelPaths::new(self.rt);
+        for path in &self.line.paths {
+            named.add(path)?;
+        }
+        let (named, are_found) = named.into_paths();
+        if !are_found {
+            return Err(CatFault::Told);
+        }
+        for path in named {
+            match path.is_there(self.rt) {
+                Ok(true) => self.reels.push(path)?,
+                Ok(false) => {}
+                Err(error) => return Err(CatFault::Listed(path.path, error)),
             }
-        };
-        let (catalog, path) = (&catalogs[number], paths[number]);
-        if self.is_partial {
-            return match parts_of(catalog, id) {
-                Ok(wanted) => self.write_parts(&wanted, Some(wanted.length), terminal),
-                Err(why) => Ok(print_not_known(self.rt, path, why)),
-            };
         }
-        match finished_line(catalog, id) {
-            Ok(line) => self.write_payload(&wanted_of(catalog, id, line), terminal),
-            Err(why) => Ok(print_not_known(self.rt, path, why)),
+        Ok(())
+    }
+
+    /// Returns the one dump that is wanted and has a label on a record file.
+    fn dump(&self, wanted: &Wanted<'_>) -> Result<DumpId, CatFault<'a>> {
+        let dumps = dumps_of(self.rt, &self.reels, wanted)?;
+        match dumps.as_slice() {
+            [] => Err(CatFault::refused(Refusal::NoVolume, None)),
+            [id] => Ok(id.copy()),
+            _ => Err(CatFault::Dumps(dumps)),
         }
     }
 
-    /// Writes the payload that is wanted, and returns the exit status. Fails if an allocation fails.
-    fn write_payload<T: Write + Drop>(
-        &self,
-        wanted: &Wanted<'_>,
-        terminal: Option<T>,
-    ) -> Result<ExitStatus, AllocError> {
-        let mut shelf = FileShelf::new(self.rt, self.paths, terminal);
-        let mut out = Counted::new(Watched::new(io::writer(self.rt)));
-        let restored = restore(self.rt.alloc(), &mut shelf, wanted, &mut out);
-        shelf.clear();
-        let out = out.into_inner();
-        if let Err(fault) = restored {
-            self.print_fault(wanted, fault, shelf.fault(), out.fault())?;
-        }
-        Ok(status_of(&restored, out.is_closed()))
-    }
-
-    /// Writes what the reels have of the payload that is wanted, of this length if it is known.
-    /// Prints which blocks are missing, and returns the exit status. Fails if an allocation fails.
-    fn write_parts<T: Write + Drop>(
+    /// `length` is the length of the payload in bytes, if it is known. It is used only if parts may
+    /// be missing.
+    fn write<T: Write + Drop>(
         &self,
         wanted: &Wanted<'_>,
         length: Option<u64>,
         terminal: Option<T>,
-    ) -> Result<ExitStatus, AllocError> {
-        let mut shelf = FileShelf::new(self.rt, self.paths, terminal);
-        let mut out = Counted::new(Watched::new(io::writer(self.rt)));
-        let restored = restore_partial(self.rt.alloc(), &mut shelf, wanted, length, &mut out);
+    ) -> Result<(), CatFault<'a>> {
+        let (rt, alloc) = (self.rt, self.rt.alloc());
+        let mut shelf = FileShelf::new(rt, &self.reels, terminal);
+        let mut out = Watched::new(io::writer(rt));
+        let (restored, status) = if self.line.is_partial {
+            let mut counted = Counted::new(&mut out);
+            let restored = restore_partial(alloc, &mut shelf, wanted, length, &mut counted);
+            let status = status_of_parts(&restored, out.is_closed());
+            (restored, status)
+        } else {
+            let restored = restore(alloc, &mut shelf, wanted, &mut Counted::new(&mut out));
+            let status = status_of(&restored, out.is_closed());
+            (restored.map(|()| Vec::new(alloc)), status)
+        };
         shelf.clear();
-        let out = out.into_inner();
-        match &restored {
-            Ok(gaps) => print_gaps(self.rt, gaps),
-            Err(fault) => self.print_fault(wanted, *fault, shelf.fault(), out.fault())?,
-        }
-        Ok(status_of_parts(&restored, out.is_closed()))
-    }
-
-    /// Prints why a payload was not restored. `opened` is why a file could not be opened, and
-    /// `written` why the output failed. Fails if an allocation fails, or if one failed before.
-    fn print_fault(
-        &self,
-        wanted: &Wanted<'_>,
-        fault: RestoreFault,
-        opened: Option<io::Error>,
-        written: Option<io::Error>,
-    ) -> Result<(), AllocError> {
-        match fault {
-            RestoreFault::Refused(Refusal::OutOfMemory) => return Err(AllocError),
-            RestoreFault::Refused(Refusal::TwoDumps { .. }) => {
-                if let Some(dumps) = dumps_of(self.rt, self.paths, wanted)? {
-                    print_dumps(self.rt, &dumps)?;
-                }
+        match restored {
+            _ if status == ExitStatus::Success => Ok(()),
+            Ok(gaps) => Err(CatFault::Gaps(gaps, status)),
+            Err(RestoreFault::Refused(Refusal::TwoDumps { .. })) => {
+                Err(CatFault::Dumps(dumps_of(rt, &self.reels, wanted)?))
             }
-            RestoreFault::Refused(refusal) => {
-                print_refusal(self.rt, self.paths, refusal, opened);
+            Err(RestoreFault::Output) => {
+                Err(CatFault::Restore(RestoreFault::Output, out.fault(), status))
             }
-            RestoreFault::Reel { reel } => print_changed(self.rt, self.paths, reel),
-            RestoreFault::Output => print_unwritten(self.rt, written),
+            Err(fault) => Err(CatFault::Restore(fault, shelf.fault(), status)),
         }
-        Ok(())
     }
 }
 
-/// Returns the record files that these paths name. If one cannot be found, it prints why and returns
-/// None. Fails if an allocation fails.
-fn paths_of<R: ListSystem>(rt: &R, paths: &[&str]) -> Result<Option<Vec<ReelPath>>, AllocError> {
-    let mut named = ReelPaths::new(rt);
-    for path in paths {
-        named.add(path)?;
-    }
-    let (named, are_found) = named.into_paths();
-    if !are_found {
-        return Ok(None);
-    }
-    let mut files = Vec::new(rt.alloc());
-    for path in named {
-        match path.is_there(rt) {
-            Ok(true) => files.push(path)?,
-            Ok(false) => {}
-            Err(error) => {
-                print_unreadable(rt, path.path.as_str(), Some(error));
-                return Ok(None);
-            }
+/// Returns what is wanted of a dump. Exactly one of the catalogs must have lines of it.
+fn known<'a, 'b>(
+    line: &'a CatLine<'a>,
+    catalogs: &'b [Catalog],
+    id: &'b DumpId,
+) -> Result<Wanted<'b>, CatFault<'a>>
+    requires { length catalogs.now ≡ length line.now.catalogs.items }
+{
+    let paths = &line.catalogs;
+    let number = match catalog_of(catalogs, id) {
+        Ok(Some(number)) => number,
+        Ok(None) => return Err(CatFault::NotKnown(paths, NotKnown::NoDump)),
+        Err(KnownTwice { first, second }) => {
+            return Err(CatFault::KnownTwice(paths[first], paths[second], id.copy()));
         }
-    }
-    Ok(Some(files))
+    };
+    let catalog = &catalogs[number];
+    let wanted = if line.is_partial {
+        parts_of(catalog, id)
+    } else {
+        finished_line(catalog, id).map(|finished| wanted_of(catalog, id, finished))
+    };
+    wanted.map_err(|why| CatFault::NotKnown(&paths[number..=number], why))
 }

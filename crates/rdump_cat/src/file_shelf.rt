@@ -1,7 +1,7 @@
 //! Record files as a shelf of reels.
 use catalog::SumVerdict;
+use console::plain;
 use file_medium::FileMedium;
-use printable::plain;
 use rdump_list::{ListProgress, ListSystem, MarkLimit, ReelPath, ShownMedium, open_plain};
 use restore::{OpenFailed, Shelf};
 use std::io::{self, Write};
@@ -16,8 +16,7 @@ pub(crate) struct FileShelf<'a, R: ListSystem, T: Write + Drop> {
 }
 
 impl<'a, R: ListSystem, T: Write + Drop> FileShelf<'a, R, T> {
-    /// Makes a shelf of the record files at these paths. `terminal` shows how far they are read, if
-    /// there is one.
+    /// `terminal` shows how far the files are read, if there is one.
     pub(crate) fn new(rt: &'a R, paths: &'a [ReelPath], terminal: Option<T>) -> Self {
         FileShelf {
             rt,
@@ -32,7 +31,6 @@ impl<'a, R: ListSystem, T: Write + Drop> FileShelf<'a, R, T> {
         self.fault
     }
 
-    /// Clears the line of progress.
     pub(crate) fn clear(&mut self) {
         if let Some(progress) = &mut self.progress {
             progress.clear();

@@ -18,10 +18,7 @@ pub struct KnownTwice {
 ///
 /// Fails if two catalogs have lines of the dump.
 pub fn catalog_of(catalogs: &[Catalog], id: &DumpId) -> Result<Option<usize>, KnownTwice>
-    // If the call returns an index, that catalog has a line of the dump, and no other catalog has
-    // one. If it returns `None`, no catalog has one.
     ensures known { IfOk result (IsOnly catalogs.now id.now) }
-    // If the call fails, the two catalogs are different ones, and each has a line of the dump.
     ensures refused { IfErr result (AreTwo catalogs.now id.now) }
 {
     let Some(first) = first_of(catalogs, id) else {
@@ -36,14 +33,12 @@ pub fn catalog_of(catalogs: &[Catalog], id: &DumpId) -> Result<Option<usize>, Kn
     }
 }
 
-/// Returns the index of the first catalog that has a line of the dump.
 fn first_of(catalogs: &[Catalog], id: &DumpId) -> Option<usize>
     ensures { IsFirst catalogs.now id.now result }
 {
     catalogs.iter().position(|catalog| knows(catalog, id))
 }
 
-/// Whether a catalog has a line of the dump.
 fn knows(catalog: &Catalog, id: &DumpId) -> bool
     ensures { IsTrue result ↔ Knows id.now catalog.now }
 {

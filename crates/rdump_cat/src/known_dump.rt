@@ -11,21 +11,17 @@ use restore::Wanted;
 pub enum NotKnown {
     /// No line of the catalog says that the dump began.
     NoDump,
-    /// No line of the dump says that it is finished.
+    /// The last line of the dump does not say that it is finished.
     NotFinished,
 }
 
-/// Returns the line of a catalog that says that a dump is finished.
+/// Returns the line of a catalog that says that a dump is finished. It is the last line of the
+/// dump.
 ///
-/// Fails with `NoDump` if no line says that the dump began. Fails with `NotFinished` if no line
-/// after the last one with which the dump began says that the dump is finished, or if a line of a
-/// volume of the dump follows it.
+/// Fails with `NoDump` if no line says that the dump began. Fails with `NotFinished` if the last
+/// line of the dump does not say that it is finished.
 pub fn finished_line<'a>(catalog: &'a Catalog, id: &DumpId) -> Result<&'a FinishedLine, NotKnown>
-    // If the call succeeds, the line says that the dump is finished, follows the last line with
-    // which the dump began, and is followed by no line of a volume of the dump.
     ensures finished { IfOk result (λ f. IsFinishedIn catalog.now id.now f.now) }
-    // If the call fails with `NoDump`, no line says that the dump began. If it fails with
-    // `NotFinished`, the lines after the last one with which the dump began have no such line.
     ensures refused { IfErr result (IsNotKnown catalog.now id.now) }
 {
     let Some(run) = catalog.run(id) else {
@@ -40,8 +36,6 @@ pub fn finished_line<'a>(catalog: &'a Catalog, id: &DumpId) -> Result<&'a Finish
 /// Returns what `restore` has to restore: the volumes of this dump whose sums are equal to those of
 /// the catalog, as many as the line of the finished dump says, and a payload of its length.
 pub fn wanted_of<'a>(catalog: &'a Catalog, id: &'a DumpId, finished: &FinishedLine) -> Wanted<'a>
-    // The dump has the given name, level and date. The number of volumes and the length of the
-    // payload are those of the line of the finished dump. The sums must be those of the catalog.
     ensures { result ≡ wanted_by catalog.now id.now finished.now }
 {
     Wanted {

@@ -12,10 +12,7 @@ use restore::Wanted;
 ///
 /// Fails with `NoDump` if no line of the catalog says that the dump began.
 pub fn parts_of<'a>(catalog: &'a Catalog, id: &'a DumpId) -> Result<Wanted<'a>, NotKnown>
-    // If the call succeeds, the dump has the given name, level and date, and the length is that of
-    // the last line with which the dump began. The sums must be those of the catalog.
     ensures parts { IfOk result (λ wanted. ArePartsOf catalog.now id.now wanted) }
-    // If the call fails, it fails with `NoDump`, and no line says that the dump began.
     ensures refused { IfErr result (IsNoDump catalog.now id.now) }
 {
     match catalog.run(id) {

@@ -1,10 +1,10 @@
 //! The command `rdump cat` writes the payload of a dump to standard output, from its reels.
 //!
-//! `run_cat` is the whole command. It reads record files in place, and writes to none of them. The
-//! crate `restore` checks the reels, chooses the volumes, and writes their blocks. `catalog_of`
-//! finds the one catalog with lines of the dump. `finished_line` finds the dump in it, and
-//! `wanted_of` says what is restored of it. `parts_of` says the same of a dump of which parts may be
-//! missing. `status_of` and `status_of_parts` return the exit status.
+//! `run_cat` is the whole command. It reads record files in place. The crate `restore` checks the
+//! reels, chooses the volumes, and writes their blocks. `catalog_of` finds the one catalog with
+//! lines of the dump, and `finished_line` finds the dump in it. `wanted_of` returns what is
+//! restored of the dump; `parts_of` does so if parts may be missing. `status_of` and
+//! `status_of_parts` return the exit status.
 //!
 //! # Contracts
 //!
@@ -14,6 +14,7 @@
 #![tactic(auto)]
 
 mod cat_command;
+mod cat_fault;
 mod catalog_files;
 mod dumps;
 mod file_shelf;
@@ -21,7 +22,6 @@ mod knowing;
 mod known_dump;
 mod known_parts;
 mod outcome;
-mod report;
 mod watched;
 
 pub use cat_command::run_cat;

@@ -12,7 +12,6 @@ pub(crate) struct Watched<W> {
 }
 
 impl<W: Write> Watched<W> {
-    /// Makes one of this output, of which no write failed.
     pub(crate) fn new(out: W) -> Watched<W> {
         Watched { out, fault: None }
     }

@@ -1,7 +1,7 @@
 -- The exit statuses of single commands of `rdump`. Public contracts cite it.
 use Rattle.std.specs.Prelude.{◌≡◌, ◌⊎◌}
-use Rattle.exit_status.specs.declared.status.ExitStatus.{ExitStatus}
-use Rattle.exit_status.specs.declared.status.ExitStatus.TheVariants.{Success, StartupError, Abnormal}
+use Rattle.console.specs.declared.status.ExitStatus.{ExitStatus}
+use Rattle.console.specs.declared.status.ExitStatus.TheVariants.{Success, StartupError, Abnormal}
 
 -- the status if no command is run: `Success` for help or the version, `StartupError` for wrong
 -- arguments

@@ -1,11 +1,7 @@
-//! The commands of `rdump` dump a payload, read a volume back, copy reels, list reels, do one
-//! operation on a drive, or query a dumpdates file. Each returns the exit status, and prints what
-//! failed.
+//! The commands of `rdump`. Each is a function `run_..` that returns the exit status and prints
+//! what failed.
 //!
-//! `rdump` is the whole program, and `run_arguments` does the same for given arguments. Each
-//! command is a function of its own: `run_mt` and `run_dates` of this crate, `run_dump` of
-//! `rdump_dump`, `run_read` and `run_fetch` of `rdump_read`, `run_cat` of `rdump_cat`, and
-//! `run_ls` of `rdump_list`.
+//! `rdump` is the whole program, and `run_arguments` does the same for given arguments.
 //! `ClientSystem` is the part of the runtime that they use.
 #![tactic(auto)]
 

@@ -14,7 +14,6 @@ pub(crate) struct Asking<I, T> {
 }
 
 impl<I: Read, T: Write> Asking<I, T> {
-    /// Makes the reader of this input, of which nothing was read yet.
     pub(crate) fn new(input: I, terminal: Option<T>) -> Self {
         Asking {
             input,
@@ -23,7 +22,6 @@ impl<I: Read, T: Write> Asking<I, T> {
         }
     }
 
-    /// Prints the possible answers on the terminal, if there is one, before a new line is read.
     fn report(&mut self) {
         if !self.is_at_line {
             return;

@@ -1,32 +1,36 @@
 //! Attends a dump of the program: keeps its checkpoint, its catalog and its entry in dumpdates,
 //! prints on standard error what happens, and answers the questions.
 
+ghost use Rattle.whole_files.specs.WholeFile.{whole_file};
+ghost use Rattle.rdump_net.specs.Observing.{entered_of};
+ghost use Rattle.rdump_dump.specs.Dates.{AreEntriesMade, IsEntryMade, is_made};
+ghost use Rattle.std.specs.Prelude.{◌≡◌};
+
 use crate::asking::Asking;
 use crate::catalog_file::{CatalogFile, Missing};
 use crate::setback::{Failure, Obstacle, ObstacleReport};
 use crate::start::Start;
 use crate::unattended::Unattended;
+use console::{CLEAR, plain};
 use dump_client::{AttemptFault, Blocks, Client, VolumeCount};
+use dump_files::{KeepFault, ProgressLine, UpdateFault, keep_checkpoint, update};
 use dump_run::VolumeLabel;
 use dumpdates::DatesFault;
 use jiff::Timestamp;
 use jiff::civil::Date;
 use jiff::tz::TimeZone;
-use printable::{CLEAR, plain};
-use rdump_files::{
-    FileFailed, KeepFault, NamedSpool, ProgressLine, ReplacedFile, UpdateFault, keep_checkpoint,
-    update,
-};
 use rdump_net::{Answers, DumpObserver, Reply, Setback, SocketPeer, find_protection, look_at_reel};
 use rdump_system::{ClientSystem, NO_DUMPDATES};
 use refusals::{TapeRequest, request_of};
 use remote_tape::{CallFault, TapeFault};
 use rmt_wire::argument::is_device;
+use std::alloc::Global;
 use std::fmt::Display;
-use std::io::Write;
+use std::io::{self, Write};
 use std::thread;
 use std::time::Duration;
-use volume_sum::Summed;
+use volume_check::Summed;
+use whole_files::{FileFailed, NamedSpool, ReplacedFile, WholeFile};
 
 /// After this many setbacks in a row, each further attempt first waits, if somebody answers.
 const QUICK_SETBACKS: u32 = 2;
@@ -34,25 +38,39 @@ const QUICK_SETBACKS: u32 = 2;
 /// How long such an attempt waits, in seconds.
 const WAIT_SECONDS: u64 = 1;
 
+/// A file that remembers why its last call failed.
+pub(crate) trait FailingFile: WholeFile {
+    /// Returns the error of the last call that failed, or none if no call failed.
+    fn failure(&self) -> Option<&io::Error>;
+}
+
+impl<R: ClientSystem> FailingFile for ReplacedFile<'_, R> {
+    fn failure(&self) -> Option<&io::Error> {
+        ReplacedFile::failure(self)
+    }
+}
+
 /// The files that a dump keeps until it is over.
 #[derive(Drop)]
-pub(crate) struct Kept<'a, R: ClientSystem> {
+pub(crate) struct Kept<'a, R: ClientSystem, F: WholeFile> {
+    /// The dumpdates file, if the dump is to be entered there.
+    pub dates: Option<F>,
     /// The file of the checkpoint, which is held, if the dump keeps one.
     pub checkpoint: Option<ReplacedFile<'a, R>>,
     /// The payload beside the checkpoint, if that is what standard input gave.
     pub spool: Option<NamedSpool<'a, R>>,
 }
 
-/// The observer of a dump. Its contracts state nothing of what is kept or printed.
+/// Its contracts say what becomes of the dumpdates file. They state nothing else of what is kept or
+/// printed.
 ///
 /// On a terminal, the line of progress is cleared before each message.
 #[derive(Drop)]
-pub(crate) struct Attendant<'s, 'a, R: ClientSystem, T: Write> {
+pub(crate) struct Attendant<'s, 'a, R: ClientSystem, T: Write, F: WholeFile> {
     start: &'s Start<'a, R>,
     terminal: Option<T>,
     progress: Option<ProgressLine<'a, R, T>>,
-    kept: Kept<'a, R>,
-    /// The catalog, if the dump keeps one.
+    kept: Kept<'a, R, F>,
     catalog: Option<CatalogFile<'a, R>>,
     /// The connections that look at the reel.
     looks: SocketPeer<'a, R>,
@@ -70,13 +88,12 @@ pub(crate) struct Attendant<'s, 'a, R: ClientSystem, T: Write> {
     setbacks: u32,
 }
 
-impl<'s, 'a, R: ClientSystem, T: Write + Copy + Drop> Attendant<'s, 'a, R, T> {
-    /// Attends the dump that begins like this, with `blocks` blocks. `terminal` is standard error,
-    /// if that is a terminal.
+impl<'s, 'a, R: ClientSystem, T: Write + Copy + Drop, F: FailingFile> Attendant<'s, 'a, R, T, F> {
+    /// `terminal` is standard error, if that is a terminal.
     pub(crate) fn new(
         start: &'s Start<'a, R>,
         blocks: u32,
-        kept: Kept<'a, R>,
+        kept: Kept<'a, R, F>,
         catalog: Option<CatalogFile<'a, R>>,
         terminal: Option<T>,
     ) -> Self {
@@ -105,30 +122,36 @@ impl<'s, 'a, R: ClientSystem, T: Write + Copy + Drop> Attendant<'s, 'a, R, T> {
         }
     }
 
-    /// Prints a message about a file or an address on standard error.
-    fn say<M: Display + Drop>(&mut self, subject: &str, message: M) {
+    fn say<M: Display + Drop>(&mut self, subject: &str, message: M)
+        ensures { self.new.kept.dates ≡ self.old.kept.dates }
+    {
         self.clear();
         let subject = plain(subject);
         let _ = eprintln!(self.start.rt; "rdump: {subject}: {message}");
     }
 
     /// Clears the line of progress.
-    fn clear(&mut self) {
+    fn clear(&mut self)
+        ensures { self.new.kept.dates ≡ self.old.kept.dates }
+    {
         if let Some(terminal) = &mut self.terminal {
             let _ = terminal.write_all(CLEAR);
         }
     }
 
-    /// Notes why an attempt failed or did not begin.
-    fn note(&mut self, setback: Setback) {
+    fn note(&mut self, setback: Setback)
+        ensures { self.new.kept.dates ≡ self.old.kept.dates }
+    {
         self.setback = Some(setback);
         self.setbacks = self.setbacks.saturating_add(1);
     }
 
-    /// Looks at the first reel of the drive, over a connection of its own. Returns why the dump must
-    /// not write on it. Returns none if it may: the reel is empty, or begins with a label of the
-    /// dump.
-    fn find_obstacle(&mut self) -> Option<Obstacle> {
+    /// Looks at the first reel of the drive, over a connection of its own. Returns why the dump
+    /// must not write on it. Returns none if it may: the reel is empty, or begins with a label of
+    /// the dump.
+    fn find_obstacle(&mut self) -> Option<Obstacle>
+        ensures { self.new.kept.dates ≡ self.old.kept.dates }
+    {
         let line = &self.start.line;
         let device = line.device.as_bytes();
         if !is_device(device) {
@@ -145,25 +168,47 @@ impl<'s, 'a, R: ClientSystem, T: Write + Copy + Drop> Attendant<'s, 'a, R, T> {
         Some(Obstacle::Protected(front, protection))
     }
 
-    /// Prints what is missing in the catalog.
-    fn report_missing(&mut self, missing: Result<(), Missing>) {
+    fn report_missing(&mut self, missing: Result<(), Missing>)
+        ensures { self.new.kept.dates ≡ self.old.kept.dates }
+    {
         if let (Err(missing), Some(catalog)) = (missing, &self.catalog) {
             let path = catalog.path();
             self.say(path, missing);
         }
     }
 
-    /// Returns the path of the checkpoint.
+    /// Prints why the dump was not entered in dumpdates, or nothing if it is not finished.
+    fn report_unentered(&self, fault: Option<UpdateFault>) {
+        let Some(fault) = fault else {
+            return;
+        };
+        let start = self.start;
+        let (rt, path) = (start.rt, plain(start.line.dumpdates));
+        let failure = match &self.kept.dates {
+            Some(file) => file.failure(),
+            None => None,
+        };
+        let _ = match (fault, failure) {
+            (UpdateFault::Dates(DatesFault::OutOfMemory), _) => {
+                eprintln!(rt; "rdump: {path}: out of memory")
+            }
+            (UpdateFault::Dates(_), _) => eprintln!(rt; "rdump: {path}: {NO_DUMPDATES}"),
+            (_, Some(error)) => eprintln!(rt; "rdump: {path}: {error}"),
+            (_, None) => eprintln!(rt; "rdump: {path}: it could not be read or replaced"),
+        };
+    }
+
     fn checkpoint_path(&self) -> &'a str {
         self.start.line.checkpoint.unwrap_or("")
     }
 }
 
-impl<'s, 'a, R: ClientSystem, T: Write + Copy + Drop, B: Blocks> DumpObserver<
+impl<'s, 'a, R: ClientSystem, T: Write + Copy + Drop, F: FailingFile, B: Blocks> DumpObserver<
     Summed<B>,
     SocketPeer<'a, R>,
-> for Attendant<'s, 'a, R, T> {
-    ghost logs = { λ _ _. ⊥ };
+> for Attendant<'s, 'a, R, T, F> {
+    // The log of an attendant says what became of its dumpdates file.
+    ghost logs = { λ first now log. AreEntriesMade (whole_file F.gives F.takes) first.kept.dates (entered_of log) now.kept.dates };
 
     ghost can_stop = { λ _. Unit {0} };
 
@@ -314,24 +359,14 @@ impl<'s, 'a, R: ClientSystem, T: Write + Copy + Drop, B: Blocks> DumpObserver<
     }
 
     fn enter(&mut self, client: &Client<Summed<B>>) -> bool {
-        let (rt, line) = (self.start.rt, &self.start.line);
-        let (true, Some(entry)) = (line.update, client.finished()) else {
-            return !line.update;
-        };
-        let mut file = ReplacedFile::new(rt, rt.alloc(), line.dumpdates);
-        let Err(fault) = update(rt.alloc(), &mut file, entry) else {
-            return true;
-        };
-        let path = plain(line.dumpdates);
-        let _ = match (fault, file.failure()) {
-            (UpdateFault::Dates(DatesFault::OutOfMemory), _) => {
-                eprintln!(rt; "rdump: {path}: out of memory")
+        let start = self.start;
+        match enter_in(start.rt.alloc(), &mut self.kept.dates, client) {
+            Ok(()) => true,
+            Err(fault) => {
+                self.report_unentered(fault);
+                false
             }
-            (UpdateFault::Dates(_), _) => eprintln!(rt; "rdump: {path}: {NO_DUMPDATES}"),
-            (_, Some(error)) => eprintln!(rt; "rdump: {path}: {error}"),
-            (_, None) => eprintln!(rt; "rdump: {path}: it could not be read or replaced"),
-        };
-        false
+        }
     }
 
     fn forget(&mut self) -> bool {
@@ -352,6 +387,27 @@ impl<'s, 'a, R: ClientSystem, T: Write + Copy + Drop, B: Blocks> DumpObserver<
             None => eprintln!(rt; "rdump: {path}: it could not be removed"),
         };
         false
+    }
+}
+
+/// Enters the dump of a client in its dumpdates file, if it has one. Fails with none if the dump is
+/// not finished, and otherwise with the reason.
+fn enter_in<F: WholeFile, B: Blocks>(
+    alloc: Global,
+    dates: &mut Option<F>,
+    client: &Client<B>,
+) -> Result<(), Option<UpdateFault>>
+    ensures { IsEntryMade (whole_file F.gives F.takes) client.now.at.run (is_made result) dates.old dates.new }
+{
+    let Some(file) = dates else {
+        return Ok(());
+    };
+    let Some(entry) = client.finished() else {
+        return Err(None);
+    };
+    match update(alloc, file, entry) {
+        Ok(()) => Ok(()),
+        Err(fault) => Err(Some(fault)),
     }
 }
 

@@ -2,18 +2,18 @@
 
 use crate::unentered::Unentered;
 use catalog::{Catalog, CatalogLine, SumLine};
+use console::plain;
 use dump_client::{Blocks, Client, VolumeCount};
-use printable::plain;
-use rdump_files::ReplacedFile;
-use rdump_sums::{
+use dump_files::{
     EnterFault, Entered, begun_line_of, enter_begun, enter_finished, enter_line, finished_line_of,
     has_count, sum_line_of,
 };
 use rdump_system::ClientSystem;
 use std::fmt::{self, Display, Formatter, Write as _};
-use volume_sum::Summed;
+use volume_check::Summed;
+use whole_files::ReplacedFile;
 
-/// The catalog of a dump. If a line cannot be entered, the dump goes on.
+/// Once the dump has begun, it goes on if a line cannot be entered.
 #[derive(Drop)]
 pub(crate) struct CatalogFile<'a, R: ClientSystem> {
     rt: &'a R,
@@ -27,8 +27,6 @@ pub(crate) struct CatalogFile<'a, R: ClientSystem> {
 }
 
 impl<'a, R: ClientSystem> CatalogFile<'a, R> {
-    /// Makes the catalog at this path, in which nothing is entered yet, for a payload of so many
-    /// bytes.
     pub(crate) fn new(rt: &'a R, path: &'a str, bytes: u64) -> Self {
         CatalogFile {
             rt,
@@ -55,7 +53,7 @@ impl<'a, R: ClientSystem> CatalogFile<'a, R> {
         }
     }
 
-    /// Goes on with a dump that is resumed. `begun` is the number of lines that say that it began.
+    /// Goes on with a dump that is resumed.
     pub(crate) fn go_on(&mut self, begun: usize) {
         self.begun = Some(begun);
     }
@@ -78,7 +76,6 @@ impl<'a, R: ClientSystem> CatalogFile<'a, R> {
         }
     }
 
-    /// The path of the catalog.
     pub(crate) fn path(&self) -> &'a str {
         self.path
     }
@@ -88,12 +85,11 @@ impl<'a, R: ClientSystem> CatalogFile<'a, R> {
         self.has_all && self.begun.is_some()
     }
 
-    /// Whether everything that the catalog is to have of the dump so far was entered.
     pub(crate) fn has_all(&self) -> bool {
         self.has_all
     }
 
-    /// Enters the line of a volume that was counted. Returns what was not entered, and why.
+    /// Enters the line of a volume that was counted.
     pub(crate) fn enter<B: Blocks>(
         &mut self,
         client: &Client<Summed<B>>,
@@ -118,7 +114,7 @@ impl<'a, R: ClientSystem> CatalogFile<'a, R> {
     }
 
     /// Enters that the dump of a finished client is finished, unless a line of it is missing or its
-    /// payload changed. Returns what was not entered, and why.
+    /// payload changed.
     pub(crate) fn finish<B: Blocks>(
         &mut self,
         client: &Client<B>,
@@ -142,12 +138,11 @@ impl<'a, R: ClientSystem> CatalogFile<'a, R> {
         }
     }
 
-    /// Returns the file of the catalog.
     fn file(&self) -> ReplacedFile<'a, R> {
-        ReplacedFile::of_catalog(self.rt, self.rt.alloc(), self.path)
+        ReplacedFile::new(self.rt, self.rt.alloc(), self.path)
     }
 
-    /// Notes what became of a line. If another run began the dump anew, nothing more is entered.
+    /// If another run began the dump anew, nothing more is entered.
     fn note(&mut self, entered: Entered) -> Result<(), Missing> {
         match entered {
             Entered::Added | Entered::There => Ok(()),
@@ -169,7 +164,7 @@ impl<'a, R: ClientSystem> CatalogFile<'a, R> {
 pub(crate) enum Missing {
     /// All from now on: another run began the dump anew.
     Another,
-    /// The end of the dump: a counted volume has no line in force.
+    /// The line that the dump is finished: a counted volume has no line in force.
     Uncovered,
     /// The line of this volume, which has no sum.
     Sum(u32),
@@ -216,7 +211,6 @@ impl Display for Spelled<'_> {
     }
 }
 
-/// Returns why a line was not entered in this file.
 fn unentered<R: ClientSystem>(fault: EnterFault, file: ReplacedFile<'_, R>) -> Unentered {
     Unentered {
         fault,

@@ -1,21 +1,24 @@
 //! `rdump dump`.
+ghost use Rattle.whole_files.specs.WholeFile.{whole_file};
+ghost use Rattle.rdump_dump.specs.Dates.{IsDatesEnd};
 ghost use Rattle.rdump_dump.specs.Status.{IsDumpStatus};
 
-use crate::attendant::{Attendant, Kept};
+use crate::attendant::{Attendant, FailingFile, Kept};
 use crate::start::Start;
 use crate::start_fault::StartFault;
 use crate::warnings::{report_end, report_first};
+use console::ExitStatus;
 use dump_client::{Blocks, Client};
-use exit_status::ExitStatus;
+use dump_files::Clearing;
 use file_medium::FileMedium;
 use rdump_args::{DumpLine, STANDARD_INPUT};
-use rdump_files::{Clearing, INPUT_NAME};
 use rdump_net::{Conclusion, DumpEnd, SocketPeer, dump_to_end};
 use rdump_system::{ClientSystem, report_unwritten};
 use rmt_wire::Counted;
 use std::io::{self, Write};
 use tape::{Medium, MemoryMedium};
-use volume_sum::Summed;
+use volume_check::Summed;
+use whole_files::{INPUT_NAME, ReplacedFile};
 
 /// Dumps a payload, as `rdump dump` does, and enters the dump in the dumpdates file if the
 /// arguments ask for that. `terminal` is standard error, if that is a terminal: it shows the base
@@ -34,9 +37,9 @@ use volume_sum::Summed;
 /// The file is held during the whole dump. It is removed once the dump is complete and, if asked
 /// for, entered. It is also removed if the dump is abandoned.
 ///
-/// Returns the exit status: `Success` if the dump is complete, everything was printed, the dump is
-/// entered if asked for, the catalog has all of it, and the checkpoint is removed. Returns
-/// `StartupError` if the dump could not begin, and `Abnormal` otherwise.
+/// Returns `Success` if the dump is complete, everything was printed, the dump is entered if asked
+/// for, the catalog has all of it, and the checkpoint is removed. Returns `StartupError` if the
+/// dump could not begin, and `Abnormal` otherwise.
 pub fn run_dump<R: ClientSystem, T: Write + Copy + Drop>(
     rt: &R,
     line: &DumpLine<'_>,
@@ -52,7 +55,6 @@ pub fn run_dump<R: ClientSystem, T: Write + Copy + Drop>(
     status_of(rt, line, dump_input(rt, line, terminal))
 }
 
-/// Returns the exit status of a dump with these arguments. Prints why it could not begin, if so.
 fn status_of<R: ClientSystem>(
     rt: &R,
     line: &DumpLine<'_>,
@@ -64,7 +66,6 @@ fn status_of<R: ClientSystem>(
     }
 }
 
-/// Opens the payload, looks at the other files, and dumps.
 fn dump_payload<'a, R: ClientSystem, T: Write + Copy + Drop>(
     rt: &'a R,
     line: &DumpLine<'a>,
@@ -79,7 +80,6 @@ fn dump_payload<'a, R: ClientSystem, T: Write + Copy + Drop>(
     dump_medium(start, MemoryMedium::from_bytes(bytes), terminal)
 }
 
-/// Dumps the payload on this medium, after a look at the other files.
 fn dump_medium<'a, R: ClientSystem, M: Medium + Drop, T: Write + Copy + Drop>(
     mut start: Start<'a, R>,
     medium: M,
@@ -90,18 +90,15 @@ fn dump_medium<'a, R: ClientSystem, M: Medium + Drop, T: Write + Copy + Drop>(
     let run = start.run(&payload)?;
     let held = start.checkpoint()?;
     let (client, checkpoint) = start.client(run, payload, held)?;
-    run_client(
-        start,
-        client,
-        Kept {
-            checkpoint,
-            spool: None,
-        },
-        terminal,
-    )
+    let kept = Kept {
+        dates: start.dates(),
+        checkpoint,
+        spool: None,
+    };
+    run_client(start, client, kept, terminal)
 }
 
-/// Looks at the files, spools standard input, and dumps that.
+/// Looks at the other files before standard input is read.
 fn dump_input<'a, R: ClientSystem, T: Write + Copy + Drop>(
     rt: &'a R,
     line: &DumpLine<'a>,
@@ -114,14 +111,18 @@ fn dump_input<'a, R: ClientSystem, T: Write + Copy + Drop>(
     let payload = start.blocks(FileMedium::new(file))?;
     let run = start.run(&payload)?;
     let (client, checkpoint) = start.client(run, payload, held)?;
-    run_client(start, client, Kept { checkpoint, spool }, terminal)
+    let kept = Kept {
+        dates: start.dates(),
+        checkpoint,
+        spool,
+    };
+    run_client(start, client, kept, terminal)
 }
 
-/// Has a client dump, and returns the exit status. `kept` is what is kept until the dump is over.
 fn run_client<'a, R: ClientSystem, B: Blocks + Drop, T: Write + Copy + Drop>(
     start: Start<'a, R>,
     mut client: Client<Summed<B>>,
-    kept: Kept<'a, R>,
+    kept: Kept<'a, R, ReplacedFile<'a, R>>,
     terminal: Option<T>,
 ) -> Result<ExitStatus, StartFault<'a>> {
     report_first(&start, terminal.is_some())?;
@@ -135,17 +136,17 @@ fn run_client<'a, R: ClientSystem, B: Blocks + Drop, T: Write + Copy + Drop>(
     Ok(end.status)
 }
 
-/// Has a client dump, with this attendant. Returns how the dump ended: the status is `Success` if
-/// the run is finished, everything was printed, the dump is entered if asked for, the catalog has
-/// all of it, and the checkpoint is removed.
-#[tactic(auto, using(crate::proofs::Ended::ended_so))]
-fn run_attended<'a, R: ClientSystem, B: Blocks, T: Write + Copy + Drop>(
+/// Has a client dump, with this attendant. The status is that of `run_dump`.
+#[tactic(auto, using(crate::proofs::Ended::ended_so, crate::proofs::Dates::dates_ended))]
+fn run_attended<'a, R: ClientSystem, B: Blocks, T: Write + Copy + Drop, F: FailingFile>(
     start: &Start<'a, R>,
     client: &mut Client<Summed<B>>,
-    attendant: &mut Attendant<'_, 'a, R, T>,
+    attendant: &mut Attendant<'_, 'a, R, T, F>,
     terminal: Option<T>,
 ) -> DumpEnd
-    ensures { IsDumpStatus client.new.at result.status }
+    ensures status { IsDumpStatus client.new.at result.status }
+    ensures dates { IsDatesEnd (whole_file F.gives F.takes) client.new.at.run result.conclusion result.status
+        attendant.old.kept.dates attendant.new.kept.dates }
 {
     let (rt, line) = (start.rt, start.line);
     let mut peer = SocketPeer::new(rt, line.to, line.timeout);

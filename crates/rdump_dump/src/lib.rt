@@ -1,10 +1,9 @@
 //! The command `rdump dump` dumps a payload to a server, and uses the files that the dump needs.
 //!
-//! `run_dump` is the whole command. A `Start` has what is found out before the first attempt: the
-//! payload, the dumpdates file, the catalog, the clock, the limits of a run and the checkpoint file
-//! are checked in this order, and a `StartFault` says why a dump cannot begin. Then `dump_to_end`
-//! of `rdump_net` dumps. An `Attendant` observes it: it keeps the checkpoint, the catalog and the
-//! entry in dumpdates, prints what happens, and answers the questions.
+//! `run_dump` is the whole command. A `Start` has what is found out before the first attempt, and a
+//! `StartFault` says why a dump cannot begin. Then `dump_to_end` of `rdump_net` dumps. An
+//! `Attendant` observes it: it keeps the checkpoint, the catalog and the entry in dumpdates, prints
+//! what happens, and answers the questions.
 #![tactic(auto)]
 
 mod asking;

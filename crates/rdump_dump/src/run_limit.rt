@@ -1,14 +1,13 @@
 //! Refuses a run whose limits the arguments violate.
 ghost use Rattle.std.specs.Prelude.{◌≡◌};
-ghost use Rattle.exit_status.specs.declared.status.ExitStatus.TheVariants.{StartupError};
+ghost use Rattle.console.specs.declared.status.ExitStatus.TheVariants.{StartupError};
 
+use console::ExitStatus;
 use dump_client::RunFault;
-use exit_status::ExitStatus;
 use rdump_args::{DumpLine, dump_error};
 use rdump_system::{ClientSystem, report_no_memory};
 use std::alloc::{AllocError, Global};
 
-/// Prints which limit of a run the arguments violate, and returns the exit status.
 pub(crate) fn refuse_run<R: ClientSystem>(
     rt: &R,
     line: &DumpLine<'_>,
@@ -23,7 +22,7 @@ pub(crate) fn refuse_run<R: ClientSystem>(
     ExitStatus::StartupError
 }
 
-/// Returns the message for a limit that is violated, with the usage of the command.
+/// Returns the message, with the usage of the command.
 fn error_of(
     alloc: Global,
     line: &DumpLine<'_>,

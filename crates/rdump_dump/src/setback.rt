@@ -1,9 +1,9 @@
 //! The messages about an attempt that failed or must not begin.
 
 use crate::shell_word::OfflineCommand;
+use console::plain;
 use dump_client::AttemptFault;
 use dump_run::{LABEL_BYTES, VolumeLabel};
-use printable::plain;
 use rdump_args::DumpLine;
 use rdump_net::{Protection, ReelFront};
 use refusals::{Refusal, TapeRequest};
@@ -15,12 +15,9 @@ use tape::{LENGTH_BYTES, entry_size};
 /// How many bytes a record takes on a reel besides its own: its length before it and after it.
 const FRAME_BYTES: u64 = 2 * LENGTH_BYTES;
 
-/// Why an attempt failed.
 #[derive(Clone, Copy)]
 pub(crate) struct Failure<'l, 'a, 'e> {
-    /// The arguments of the dump.
     pub line: &'l DumpLine<'a>,
-    /// Why.
     pub fault: AttemptFault,
     /// The request that was sent last, which is the one that a server refuses.
     pub asked: TapeRequest,
@@ -94,12 +91,9 @@ pub(crate) enum Obstacle {
     Unseen(TapeFault),
 }
 
-/// The message about an obstacle.
 #[derive(Clone, Copy)]
 pub(crate) struct ObstacleReport<'l, 'a, 'o, 'e> {
-    /// The arguments of the dump.
     pub line: &'l DumpLine<'a>,
-    /// The obstacle.
     pub obstacle: &'o Obstacle,
     /// The system's error, if the connection of the look failed with one. It is printed in place of
     /// a fault that says only that the connection ended.
@@ -156,7 +150,6 @@ impl Display for ObstacleReport<'_, '_, '_, '_> {
     }
 }
 
-/// Returns the label that a reel begins with, if any.
 fn label_of(front: &ReelFront) -> Option<VolumeLabel> {
     match front {
         ReelFront::Record(bytes) => VolumeLabel::read(bytes),

@@ -1,6 +1,6 @@
 //! Commands for a shell, to print.
 
-use printable::plain;
+use console::plain;
 use rdump_args::DumpLine;
 use std::fmt::{self, Display, Formatter, Write as _};
 

@@ -1,22 +1,20 @@
 //! The start of a dump, before its first attempt.
-ghost use Rattle.std.specs.Prelude.{◌≡◌, IfOk};
-ghost use Rattle.rdump_files.specs.Payload.{IsRunsPayload};
+ghost use Rattle.std.specs.Prelude.{◌≡◌, ◌↔◌, IfOk, None, false};
+ghost use Rattle.dump_files.specs.Payload.{IsRunsPayload};
 
 use crate::catalog_file::CatalogFile;
 use crate::start_fault::StartFault;
 use crate::warnings::{report_going_on, report_younger};
 use catalog::{Catalog, CatalogFault};
+use console::plain;
 use dump_client::{Blocks, Client, ResumeFault, Run};
+use dump_files::{
+    DumpFile, DumpFiles, PayloadFile, SameFile, dumper_of, resume_dump, run_of, seconds_now,
+};
 use dump_run::Checkpoint;
 use dumpdates::{Dates, DatesFault};
-use named_files::ZonedLine;
-use printable::plain;
+use linux_dates::ZonedLine;
 use rdump_args::DumpLine;
-use rdump_files::{
-    DumpFile, DumpFiles, FileFailed, NamedSpool, PayloadFile, PayloadLook, ReplacedFile, SameFile,
-    SpoolFault, WholeFile, check_plain, dumper_of, named_spool_path, open_payload, read_or_empty,
-    read_steady, resume_dump, run_of, seconds_now, spool_folder, spool_unnamed,
-};
 use rdump_system::ClientSystem;
 use rmt_wire::errno::ENOENT;
 use std::alloc::Global;
@@ -24,9 +22,12 @@ use std::fs::{File, Metadata};
 use std::io;
 use std::os::unix::fs::FileTypeExt;
 use tape::{Medium, MediumFailed};
-use volume_sum::Summed;
+use volume_check::Summed;
+use whole_files::{
+    FileFailed, NamedSpool, PayloadLook, ReplacedFile, SpoolFault, WholeFile, check_plain,
+    named_spool_path, open_payload, read_or_empty, read_steady, spool_folder, spool_unnamed,
+};
 
-/// The client of a dump.
 pub(crate) type Dumper<M> = Client<Summed<PayloadFile<M>>>;
 
 /// The file of a checkpoint, which is held, and the checkpoint that it has, if any.
@@ -40,7 +41,6 @@ pub(crate) struct HeldCheckpoint<'a, R: ClientSystem> {
 /// A dump before its first attempt: its arguments, and what was found out about its files.
 #[derive(Drop)]
 pub(crate) struct Start<'a, R: ClientSystem> {
-    /// The system.
     pub rt: &'a R,
     /// The arguments. They have the date of the dump once the clock was asked.
     pub line: DumpLine<'a>,
@@ -53,7 +53,6 @@ pub(crate) struct Start<'a, R: ClientSystem> {
     /// The latest date of the entries that the dump is to replace, in seconds since 1970. It is 0
     /// without such entries.
     pub replaced: u64,
-    /// Whether the dump is resumed from a checkpoint.
     is_resumed: bool,
     /// Whether the payload was written to after the checkpoint from which the dump is resumed.
     is_younger: bool,
@@ -64,7 +63,6 @@ pub(crate) struct Start<'a, R: ClientSystem> {
 }
 
 impl<'a, R: ClientSystem> Start<'a, R> {
-    /// Makes the start of a dump with these arguments. Nothing is looked at yet.
     pub(crate) fn new(rt: &'a R, line: &DumpLine<'a>) -> Self
         ensures { result.line ≡ line.now }
     {
@@ -82,6 +80,18 @@ impl<'a, R: ClientSystem> Start<'a, R> {
         }
     }
 
+    /// Returns the dumpdates file, if the dump is to be entered there.
+    pub(crate) fn dates(&self) -> Option<ReplacedFile<'a, R>>
+        ensures { (result ≡ None) ↔ (self.now.line.update ≡ false) }
+    {
+        let line = &self.line;
+        if line.update {
+            Some(ReplacedFile::new(self.rt, self.rt.alloc(), line.dumpdates))
+        } else {
+            None
+        }
+    }
+
     /// Opens the payload. Returns its file, and whether it can be read at any offset during the
     /// dump: it has a length then.
     pub(crate) fn open(&mut self) -> Result<(File, bool), StartFault<'a>>
@@ -93,7 +103,6 @@ impl<'a, R: ClientSystem> Start<'a, R> {
         Ok((file, is_lasting(&found)))
     }
 
-    /// Notes the file of the payload.
     fn add_payload(&mut self, file: &File, found: &Metadata) -> Result<(), StartFault<'a>>
         ensures { self.new.line ≡ self.old.line }
     {
@@ -103,8 +112,8 @@ impl<'a, R: ClientSystem> Start<'a, R> {
     }
 
     /// Reads standard input to its end into a file, and returns the file. If the dump keeps a
-    /// checkpoint, the file has a name beside it, and is returned as a `NamedSpool` too. If there is
-    /// a checkpoint, that file is the payload, and standard input is not read.
+    /// checkpoint, the file has a name beside it, and is returned as a `NamedSpool` too. If there
+    /// is a checkpoint, that file is the payload, and standard input is not read.
     pub(crate) fn spool(
         &mut self,
         held: Option<&HeldCheckpoint<'a, R>>,
@@ -115,7 +124,7 @@ impl<'a, R: ClientSystem> Start<'a, R> {
         self.is_piped = true;
         let (file, spool) = match held {
             None => {
-                let folder = spool_folder(&line);
+                let folder = spool_folder(line.spool, line.dumpdates);
                 let (file, _) = spooled(
                     folder,
                     spool_unnamed(rt, alloc, folder, &mut rt.reader(), line.allow_empty),
@@ -132,8 +141,8 @@ impl<'a, R: ClientSystem> Start<'a, R> {
         Ok((file, spool))
     }
 
-    /// Returns the payload beside this checkpoint file. If it has no checkpoint, the payload is read
-    /// from standard input.
+    /// Returns the payload beside this checkpoint file. If it has no checkpoint, the payload is
+    /// read from standard input.
     fn named_spool(
         &self,
         held: &HeldCheckpoint<'a, R>,
@@ -171,7 +180,6 @@ impl<'a, R: ClientSystem> Start<'a, R> {
         }
     }
 
-    /// Returns the payload on this medium, in blocks.
     pub(crate) fn blocks<M: Medium + Drop>(
         &mut self,
         medium: M,
@@ -249,7 +257,7 @@ impl<'a, R: ClientSystem> Start<'a, R> {
         check_same(path, self.files.add_catalog(rt, alloc, path))?;
         at(path, check_plain(rt, path))?;
         self.read_catalog(path)?;
-        let file = ReplacedFile::of_catalog(rt, alloc, path);
+        let file = ReplacedFile::new(rt, alloc, path);
         check_new(path, &file)?;
         match file.find_fault() {
             None => Ok(()),
@@ -257,7 +265,7 @@ impl<'a, R: ClientSystem> Start<'a, R> {
         }
     }
 
-    /// Reads the catalog at this path. A file that does not exist has no lines.
+    /// A file that does not exist has no lines.
     fn read_catalog(&self, path: &'a str) -> Result<Catalog, StartFault<'a>> {
         let text = at(path, read_or_empty(self.rt, self.rt.alloc(), path))?;
         match Catalog::read(self.rt.alloc(), &text) {
@@ -283,7 +291,6 @@ impl<'a, R: ClientSystem> Start<'a, R> {
         }
     }
 
-    /// Returns the run that the arguments describe for this payload.
     pub(crate) fn run<M: Medium + Drop>(
         &self,
         payload: &PayloadFile<M>,
@@ -388,7 +395,6 @@ impl<'a, R: ClientSystem> Start<'a, R> {
     }
 }
 
-/// Returns the result of a call of the system for the file at this path.
 fn at<'a, V>(path: &'a str, found: io::Result<V>) -> Result<V, StartFault<'a>> {
     match found {
         Ok(value) => Ok(value),
@@ -423,7 +429,6 @@ fn check_new<'a, R: ClientSystem>(
     }
 }
 
-/// Returns the result of a call that spools standard input to a file in this folder.
 fn spooled<'a, V>(folder: &'a str, found: Result<V, SpoolFault>) -> Result<V, StartFault<'a>> {
     match found {
         Ok(value) => Ok(value),
@@ -431,7 +436,6 @@ fn spooled<'a, V>(folder: &'a str, found: Result<V, SpoolFault>) -> Result<V, St
     }
 }
 
-/// Returns the checkpoint in the text of the file at this path.
 fn checkpoint_in<'a>(
     alloc: Global,
     path: &'a str,
@@ -444,7 +448,6 @@ fn checkpoint_in<'a>(
     }
 }
 
-/// Returns why the checkpoint file at this path could not be read.
 fn unread<'a, R: ClientSystem>(path: &'a str, file: ReplacedFile<'_, R>) -> StartFault<'a> {
     match file.into_failure() {
         Some(error) => StartFault::System(path, error),

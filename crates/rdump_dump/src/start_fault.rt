@@ -1,26 +1,25 @@
 //! Why a dump could not begin.
 ghost use Rattle.std.specs.Prelude.{◌≡◌};
-ghost use Rattle.exit_status.specs.declared.status.ExitStatus.TheVariants.{StartupError};
+ghost use Rattle.console.specs.declared.status.ExitStatus.TheVariants.{StartupError};
 
 use crate::run_limit::refuse_run;
 use crate::unentered::Unentered;
 use catalog::CatalogFault;
+use console::{ExitStatus, PlainBytes, plain};
 use dump_client::{ResumeFault, Run, RunFault};
+use dump_files::{DumpFile, SameFile};
 use dump_run::Checkpoint;
 use dumpdates::DatesFault;
-use exit_status::ExitStatus;
-use named_files::ZonedLine;
-use printable::{PlainBytes, plain};
+use linux_dates::ZonedLine;
 use rdump_args::DumpLine;
-use rdump_files::{DumpFile, INPUT_NAME, SameFile, SpoolFault};
 use rdump_system::{
     ClientSystem, NO_CATALOG, print_fault, report, report_no_dates, report_no_memory,
 };
 use std::alloc::AllocError;
 use std::fmt::{self, Display, Formatter, Write as _};
 use std::io::{self, ErrorKind};
+use whole_files::{INPUT_NAME, SpoolFault};
 
-/// Why a dump could not begin.
 #[derive(Drop)]
 pub(crate) enum StartFault<'a> {
     /// An allocation failed.
@@ -63,7 +62,6 @@ impl From<AllocError> for StartFault<'_> {
 }
 
 impl StartFault<'_> {
-    /// Prints the fault of a dump with these arguments, and returns the exit status.
     pub(crate) fn report<R: ClientSystem>(self, rt: &R, line: &DumpLine<'_>) -> ExitStatus
         ensures { result ≡ StartupError }
     {
@@ -105,7 +103,6 @@ impl StartFault<'_> {
     }
 }
 
-/// Prints that the file at this path is also another one of the dump, and returns the exit status.
 fn report_same<R: ClientSystem>(
     rt: &R,
     line: &DumpLine<'_>,
@@ -125,7 +122,6 @@ fn report_same<R: ClientSystem>(
     ExitStatus::StartupError
 }
 
-/// Returns what a message calls a file of a dump.
 fn name_of(file: DumpFile) -> &'static str {
     match file {
         DumpFile::Payload => "the payload",
@@ -149,7 +145,6 @@ fn path_of<'a>(line: &DumpLine<'a>, file: DumpFile) -> Option<&'a str> {
     }
 }
 
-/// Prints that the catalog at this path cannot be replaced, and returns the exit status.
 fn report_unwritable<R: ClientSystem>(rt: &R, path: &str, error: io::Error) -> ExitStatus
     ensures { result ≡ StartupError }
 {
@@ -161,8 +156,6 @@ fn report_unwritable<R: ClientSystem>(rt: &R, path: &str, error: io::Error) -> E
     ExitStatus::StartupError
 }
 
-/// Prints why standard input was not spooled to the file or the folder at this path, and returns the
-/// exit status.
 fn report_spool<R: ClientSystem>(rt: &R, path: &str, fault: SpoolFault) -> ExitStatus
     ensures { result ≡ StartupError }
 {
@@ -174,7 +167,6 @@ fn report_spool<R: ClientSystem>(rt: &R, path: &str, fault: SpoolFault) -> ExitS
     }
 }
 
-/// Prints on standard error what is at fault and why, and returns the exit status.
 fn refuse<R: Eprint, M: Display + Drop>(rt: &R, what: &str, why: M) -> ExitStatus
     ensures { result ≡ StartupError }
 {
@@ -183,7 +175,6 @@ fn refuse<R: Eprint, M: Display + Drop>(rt: &R, what: &str, why: M) -> ExitStatu
     ExitStatus::StartupError
 }
 
-/// Why a file is not a catalog.
 #[derive(Clone, Copy)]
 struct NotCatalog(CatalogFault);
 
@@ -208,8 +199,8 @@ impl Display for LostSpool<'_> {
     }
 }
 
-/// Prints each parameter in which the run of the checkpoint at this path, `kept`, differs from that
-/// of this dump. The dates of a run may differ.
+/// Prints each parameter in which the run of the checkpoint, `kept`, differs from that of this
+/// dump. The dates may differ.
 fn report_differences<R: Eprint>(rt: &R, path: &str, kept: &Run, run: &Run) {
     if kept.device() != run.device() {
         let (kept, here) = (PlainBytes(kept.device()), PlainBytes(run.device()));
@@ -235,8 +226,6 @@ fn report_differences<R: Eprint>(rt: &R, path: &str, kept: &Run, run: &Run) {
     }
 }
 
-/// Prints the values that a parameter of a run has in the checkpoint at this path, and in this
-/// dump.
 fn report_values<R: Eprint, V: Display + Drop>(rt: &R, path: &str, name: &str, kept: V, here: V) {
     let path = plain(path);
     let _ = eprintln!(rt; "rdump: {path}: its {name} is {kept}, and that of this dump is {here}");

@@ -6,7 +6,8 @@ use rdump_system::ClientSystem;
 use std::thread;
 use std::time::Duration;
 
-/// Tries a volume again while waiting can help, so many times in a row.
+/// Tries a volume again while waiting can help, at most so many times in a row, and waits before
+/// each.
 #[derive(Drop)]
 pub(crate) struct Unattended {
     retries: Retries,
@@ -14,7 +15,6 @@ pub(crate) struct Unattended {
 }
 
 impl Unattended {
-    /// Tries at most `times` times in a row, and waits this long before each.
     pub(crate) fn new(times: u32, pause: Duration) -> Self {
         Unattended {
             retries: Retries::new(times),

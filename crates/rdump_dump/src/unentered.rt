@@ -1,15 +1,13 @@
 //! Why a line was not entered in a catalog.
 
 use catalog::CatalogFault;
-use rdump_sums::EnterFault;
+use dump_files::EnterFault;
 use rdump_system::NO_CATALOG;
 use std::fmt::{self, Display, Formatter, Write as _};
 use std::io::{self, ErrorKind};
 
-/// Why a line was not entered in a catalog, and the system's error if the file failed.
 #[derive(Drop)]
 pub(crate) struct Unentered {
-    /// Why.
     pub fault: EnterFault,
     /// The system's error, if the file failed.
     pub failure: Option<io::Error>,

@@ -3,13 +3,14 @@
 use crate::shell_word::ShellWord;
 use crate::start::Start;
 use crate::start_fault::StartFault;
+use console::plain;
 use dump_client::{Blocks, Client};
+use dump_files::date_text;
 use dumpdates::LAST_SECOND;
-use printable::plain;
-use rdump_files::{PayloadChange, PayloadLook, ReplacedFile, date_text};
 use rdump_system::ClientSystem;
 use std::io::ErrorKind;
 use std::time::{SystemTime, UNIX_EPOCH};
+use whole_files::{PayloadChange, PayloadLook, ReplacedFile};
 
 /// Prints what is known before the first attempt:
 ///
@@ -44,7 +45,6 @@ pub(crate) fn report_first<'a, R: ClientSystem>(
     Ok(())
 }
 
-/// Prints the date `since`, after which a block counts as new.
 fn report_since<'a, R: ClientSystem>(rt: &R, since: u64) -> Result<(), StartFault<'a>> {
     if since == 0 {
         let _ = eprintln!(rt; "since the epoch: every block counts as new");
@@ -55,7 +55,6 @@ fn report_since<'a, R: ClientSystem>(rt: &R, since: u64) -> Result<(), StartFaul
     Ok(())
 }
 
-/// Prints that the dump is to replace an entry of a date that is later than its own.
 fn report_replaced<'a, R: ClientSystem>(start: &Start<'a, R>) -> Result<(), StartFault<'a>> {
     let (rt, line) = (start.rt, &start.line);
     let date = text_of(rt, start.replaced)?;
@@ -66,7 +65,6 @@ fn report_replaced<'a, R: ClientSystem>(start: &Start<'a, R>) -> Result<(), Star
     Ok(())
 }
 
-/// Prints why a dumpdates file cannot be written, if so.
 fn report_unwritable<'a, R: ClientSystem>(rt: &R, dumpdates: &str) -> Result<(), StartFault<'a>> {
     match ReplacedFile::new(rt, rt.alloc(), dumpdates).find_fault() {
         None => Ok(()),
@@ -138,7 +136,6 @@ pub(crate) fn report_end<R: ClientSystem, B: Blocks>(start: &Start<'_, R>, clien
     }
 }
 
-/// Prints what changed in a payload since its dump began, if anything.
 fn report_change<R: Eprint>(rt: &R, path: &str, look: &PayloadLook) {
     let path = plain(path);
     let _ = match look.change() {

@@ -24,9 +24,9 @@ use Rattle.rdump_net.specs.declared.fault.ReadFault.{ReadFault}
 use Rattle.rdump_net.specs.declared.volume.AfterVolume.{AfterVolume}
 use Rattle.rdump_net.specs.declared.volume.AfterVolume.TheVariants.{Stay, Offline}
 use Rattle.catalog.specs.declared.line.CatalogLine.{CatalogLine}
-use Rattle.volume_sum.specs.Volume.{file_sum}
-use Rattle.rdump_sums.specs.Comparing.{Compared, ComparedStep}
-use Rattle.rdump_sums.specs.ComparedVolume.{HasNotDiffered, PassesOn, volume_calls, volume_entries}
+use Rattle.volume_check.specs.Volume.{file_sum}
+use Rattle.rdump_fetch.specs.Comparing.{Compared, ComparedStep}
+use Rattle.rdump_fetch.specs.ComparedVolume.{HasNotDiffered, PassesOn, volume_calls, volume_entries}
 use Rattle.rdump_fetch.specs.Copy.{PlainCopy, CopyKind, plain_copy, with_bytes}
 use Rattle.rdump_fetch.specs.Sink.{CopyStep}
 use Rattle.rdump_fetch.specs.Fetch.{HasKeptCopy, IsTakenAwayOnlyIfCopied, entries_read}

@@ -13,9 +13,9 @@ use Rattle.rdump_net.specs.Reading.{IsRead, next_of}
 use Rattle.rdump_net.specs.declared.fault.ReadFault.{ReadFault}
 use Rattle.rdump_net.specs.declared.volume.AfterVolume.TheVariants.{Offline}
 use Rattle.catalog.specs.declared.line.CatalogLine.{CatalogLine}
-use Rattle.volume_sum.specs.Volume.{file_sum}
-use Rattle.rdump_sums.specs.Comparing.{Compared}
-use Rattle.rdump_sums.specs.ComparedVolume.{HasNotDiffered}
+use Rattle.volume_check.specs.Volume.{file_sum}
+use Rattle.rdump_fetch.specs.Comparing.{Compared}
+use Rattle.rdump_fetch.specs.ComparedVolume.{HasNotDiffered}
 use Rattle.rdump_fetch.specs.Copy.{PlainCopy, CopyKind, plain_copy}
 
 -- the entries of a reel up to its first mark, if these records were read: the records, of which an

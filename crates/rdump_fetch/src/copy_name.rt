@@ -11,9 +11,8 @@ use std::alloc::AllocError;
 /// the number of the volume, with dots between them. In the name of the dump, `/` is written `%2F`,
 /// `%` is written `%25`, and a leading dot `%2E`.
 ///
-/// Fails if an allocation fails. Part of the name may have been appended then.
+/// If an allocation fails, part of the name may have been appended.
 pub fn push_copy_name(text: &mut Vec<u8>, label: &VolumeLabel) -> Result<(), AllocError>
-    // Appends the name of the label's copy.
     ensures { OnOk result (text.new.items ≡ text.old.items ++ copy_name label.now) }
 {
     push_name(text, label.name().as_bytes())?;
@@ -22,7 +21,6 @@ pub fn push_copy_name(text: &mut Vec<u8>, label: &VolumeLabel) -> Result<(), All
     push_number(text, u64::from(label.volume()))
 }
 
-/// Appends the name of a dump.
 fn push_name(text: &mut Vec<u8>, name: &[u8]) -> Result<(), AllocError>
     ensures { OnOk result (text.new.items ≡ text.old.items ++ spec.escaped_name name.now) }
 {
@@ -37,7 +35,6 @@ fn push_name(text: &mut Vec<u8>, name: &[u8]) -> Result<(), AllocError>
     push_bytes(text, rest)
 }
 
-/// Appends bytes of the name of a dump.
 fn push_bytes(text: &mut Vec<u8>, bytes: &[u8]) -> Result<(), AllocError>
     ensures { OnOk result (text.new.items ≡ text.old.items ++ flat_map spec.escaped bytes.now) }
 {
@@ -47,7 +44,6 @@ fn push_bytes(text: &mut Vec<u8>, bytes: &[u8]) -> Result<(), AllocError>
     Ok(())
 }
 
-/// Appends a byte of the name of a dump.
 fn push_byte(text: &mut Vec<u8>, byte: u8) -> Result<(), AllocError>
     ensures { OnOk result (text.new.items ≡ text.old.items ++ spec.escaped byte) }
 {
@@ -58,7 +54,6 @@ fn push_byte(text: &mut Vec<u8>, byte: u8) -> Result<(), AllocError>
     }
 }
 
-/// Appends a dot and a number.
 fn push_number(text: &mut Vec<u8>, number: u64) -> Result<(), AllocError>
     ensures { OnOk result (text.new.items ≡ text.old.items ++ spec.numbered number) }
 {

@@ -1,4 +1,4 @@
-//! Why a sink stopped the copy of a reel.
+//! The faults of a sink.
 use std::io;
 
 /// Why a sink stopped the copy of a reel.

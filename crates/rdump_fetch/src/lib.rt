@@ -1,34 +1,36 @@
-//! Copies a reel of a remote tape into a record file, and moves the reel to the bin only after
-//! that.
+//! Copies a reel of a remote tape into a record file, and only then moves the reel to the bin.
 //!
-//! `fetch_reel` copies one reel. `FetchSink` is the sink that receives the reel, and a `CopyFile` is
-//! the file that the sink writes. `MemoryCopy` is such a file in memory. `push_copy_name` is the
-//! name of a copy.
+//! `fetch_reel` copies one reel: a `FetchSink` receives it and writes a `CopyFile`.
 //!
 //! # Contracts
 //!
-//! The *entries* of a reel are its records and marks. A *record file* contains the entries of a
-//! reel in order. A record is written as its length, its bytes and its length again. A mark is
-//! written as the length 0. Each length takes 4 bytes. rdump(5) describes record files.
+//! The *entries* of a reel are its records and marks. A *record file* contains them in order, as
+//! rdump(5) describes.
 //!
-//! A *copy* is a record file that is made of a reel. The copy contains the records of the reel up
-//! to the first mark, and one mark. The copy belongs to the label that the reel begins with, and
-//! has a name that follows from this label. While the copy is made, its file has another name. A
-//! copy is *synced* if its bytes are on the disk. A copy is *placed* if these bytes are in a file
-//! that has the copy's name. A copy is *kept* if this name is on the disk too. Promises about a copy
-//! hold only if the contract of the `CopyFile` says what the copy contains.
+//! A *copy* is a record file with the records of a reel up to the first mark, and one mark. It
+//! belongs to the label that the reel begins with, and its name follows from this label. While it
+//! is made, its file has another name. A copy is *synced* if its bytes are on the disk, *placed* if
+//! they are also in a file that has the copy's name, and *kept* if this name is on the disk too.
+//!
+//! A *sink* receives a volume that is read from a reel (see `rdump_net`). A `ComparedSink` passes
+//! it on to an *inner* sink. A *verdict* is the result of comparing the volume's sum, the SHA-256
+//! of its record file, with the lines that have its label (see `catalog`).
 #![tactic(auto)]
 
+mod compared_sink;
 mod copy_file;
 mod copy_name;
 mod fault;
 mod fetch;
+mod laws;
 mod memory_copy;
 mod sink;
 
+pub use compared_sink::ComparedSink;
 pub use copy_file::CopyFile;
 pub use copy_name::push_copy_name;
 pub use fault::FetchFault;
 pub use fetch::fetch_reel;
+pub use laws::compared_volume;
 pub use memory_copy::{CopyStage, MemoryCopy};
 pub use sink::{CopiedVolume, FetchSink};

@@ -24,7 +24,6 @@ pub enum CopyStage {
     Kept,
 }
 
-/// The label that a copy is made for, and the bytes of the copy.
 #[derive(Drop)]
 struct MadeCopy {
     label: VolumeLabel,
@@ -41,7 +40,8 @@ impl Model for MadeCopy {
 
 /// A copy in memory, and how far it has come. Contracts always know what it contains.
 ///
-/// `sync`, `place` and `sync_name` fail if they are not called in this order.
+/// `place` fails with `InvalidInput` if the copy is not synced, and `sync_name` if it is not
+/// placed.
 #[derive(Drop)]
 pub struct MemoryCopy {
     alloc: Global,
@@ -58,9 +58,8 @@ impl Model for MemoryCopy {
 }
 
 impl MemoryCopy {
-    /// Makes one in which nothing is copied yet. Allocates nothing.
+    /// Makes one without a copy. Allocates nothing.
     pub fn new(alloc: Global) -> MemoryCopy
-        // The new one has no copy.
         ensures { result.copy ≡ None }
     {
         MemoryCopy {
@@ -72,7 +71,6 @@ impl MemoryCopy {
 
     /// Returns the bytes of the copy, if one was begun.
     pub fn bytes(&self) -> Option<&[u8]>
-        // Returns the bytes of the copy, or `None` if no copy was begun.
         ensures { option_map (λ bytes. bytes.now) result ≡ option_map (λ copy. copy.bytes) self.now.copy }
     {
         match &self.copy {
@@ -83,13 +81,11 @@ impl MemoryCopy {
 
     /// Whether the copy is kept.
     pub fn is_kept(&self) -> bool
-        // Returns whether the copy is kept.
         ensures { IsTrue result ↔ (self.now.stage ≡ Kept) }
     {
         self.stage == CopyStage::Kept
     }
 
-    /// Moves on to a stage, if the copy is at the stage before it.
     fn move_on(&mut self, before: CopyStage, after: CopyStage) -> io::Result<()>
         ensures { IsOk result → (copy : PlainCopy) → HasCopyAt before self.old copy → HasCopyAt after self.new copy }
     {
@@ -102,9 +98,6 @@ impl MemoryCopy {
 }
 
 impl CopyFile for MemoryCopy {
-    // begin, append_framed, sync, place, sync_name, leave: Each call changes the copy as the trait
-    // `CopyFile` promises.
-
     ghost holds = { HasCopy };
 
     ghost synced = { HasCopyAt Synced };
@@ -145,12 +138,10 @@ impl CopyFile for MemoryCopy {
         Ok(())
     }
 
-    /// Fails with `InvalidInput` if the copy is not synced.
     fn place(&mut self) -> io::Result<()> {
         self.move_on(CopyStage::Synced, CopyStage::Placed)
     }
 
-    /// Fails with `InvalidInput` if the copy is not placed.
     fn sync_name(&mut self) -> io::Result<()> {
         self.move_on(CopyStage::Placed, CopyStage::Kept)
     }

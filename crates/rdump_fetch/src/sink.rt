@@ -1,4 +1,4 @@
-//! The sink of a reel that is copied.
+//! The sink that copies.
 ghost use Rattle.std.specs.Prelude.{◌≡◌, IsOk, OnOk, Some, true};
 ghost use Rattle.tape.specs.Failures.{Steps};
 ghost use Rattle.tape.specs.Tape.{IsRecord};
@@ -16,21 +16,21 @@ use std::io::{self, ErrorKind};
 use std::marker::Model;
 use tape::is_record;
 
-/// The length that a record file has for a mark.
+/// A mark's length in a record file.
 const MARK_LENGTH: u32 = 0;
 
-/// How many bytes a record file has beside the bytes of a record: its length, twice.
+/// The bytes of a record's two lengths.
 const RECORD_FRAME: u64 = 8;
 
-/// How many bytes a record file has for a mark.
+/// The bytes of a mark.
 const MARK_SIZE: u64 = 4;
 
 /// A volume that is copied.
 #[derive(Drop)]
 pub struct CopiedVolume {
-    /// The label, as it was read.
+    /// The label.
     pub label: VolumeLabel,
-    /// How many blocks were copied.
+    /// How many blocks it has.
     pub blocks: u64,
     /// How many bytes each block has; 0 if there is no block.
     pub block_bytes: usize,
@@ -39,7 +39,6 @@ pub struct CopiedVolume {
 }
 
 impl CopiedVolume {
-    /// A volume of which the label was copied, a record of `bytes` bytes.
     fn new(label: VolumeLabel, bytes: usize) -> CopiedVolume {
         CopiedVolume {
             label,
@@ -49,7 +48,6 @@ impl CopiedVolume {
         }
     }
 
-    /// Counts a block of `bytes` bytes.
     fn count(&mut self, bytes: usize) {
         self.blocks = self.blocks.saturating_add(1);
         self.block_bytes = bytes;
@@ -57,7 +55,6 @@ impl CopiedVolume {
         self.bytes = self.bytes.saturating_add(size);
     }
 
-    /// Counts the mark.
     fn count_mark(&mut self) {
         self.bytes = self.bytes.saturating_add(MARK_SIZE);
     }
@@ -65,8 +62,8 @@ impl CopiedVolume {
 
 /// A sink that copies each reel into a `CopyFile`.
 ///
-/// It accepts a volume only if its first record is a label, and if all blocks have the same length.
-/// It keeps why it stopped. Contracts see only the file.
+/// It accepts a volume only if its first record is a label, and if all blocks have the same length,
+/// 1 to 262,144 bytes. Contracts see only the file.
 #[derive(Drop)]
 pub struct FetchSink<F: CopyFile> {
     file: F,
@@ -86,7 +83,6 @@ impl<F: CopyFile> Model for FetchSink<F> {
 impl<F: CopyFile> FetchSink<F> {
     /// Makes a sink that copies reels into this file. It makes no call of the file.
     pub fn new(file: F) -> FetchSink<F>
-        // Contracts treat the new sink as equal to the given file, which is unchanged.
         ensures { result ≡ file }
     {
         FetchSink {
@@ -99,7 +95,7 @@ impl<F: CopyFile> FetchSink<F> {
 
     /// Returns the file.
     pub fn file(&self) -> &F
-        // Returns the sink's file. The types allow no other body, so no wrong body is tried.
+        // The types allow no other body, so no wrong body is tried.
         ensures { result.now ≡ self.now }
     {
         &self.file
@@ -107,7 +103,6 @@ impl<F: CopyFile> FetchSink<F> {
 
     /// Forgets the volume before, and why the sink stopped. It makes no call of the file.
     pub fn forget(&mut self)
-        // The file is unchanged.
         ensures { self.new ≡ self.old }
     {
         self.volume = None;
@@ -115,16 +110,15 @@ impl<F: CopyFile> FetchSink<F> {
         self.fault = None;
     }
 
-    /// Ends the work on the copy of the volume, whether it is kept or not.
+    /// Ends the work on the copy, whether it is kept or not.
     pub fn leave(&mut self)
-        // Each copy that was kept is still kept.
         ensures { (copy : PlainCopy) → F.kept self.old copy → F.kept self.new copy }
     {
         self.file.leave();
     }
 
-    /// Returns the volume that is copied, if its label was read. If the copy could not be begun, the
-    /// volume has the label and no block.
+    /// Returns the volume that is copied, if its label was read. If the copy could not be begun,
+    /// the volume has no block.
     pub fn volume(&self) -> Option<&CopiedVolume> {
         self.volume.as_ref()
     }
@@ -139,7 +133,6 @@ impl<F: CopyFile> FetchSink<F> {
         self.fault
     }
 
-    /// Keeps why the sink stopped.
     fn stop(&mut self, fault: FetchFault) -> SinkStopped
         ensures { self.new ≡ self.old }
     {
@@ -147,8 +140,6 @@ impl<F: CopyFile> FetchSink<F> {
         SinkStopped
     }
 
-    /// Begins the copy of a volume with its first record. Fails if the record is no label, or if the
-    /// copy could not be begun.
     fn accept(&mut self, bytes: &[u8]) -> Result<(), FetchFault>
         ensures { OnOk result (CopyStep (copy_kind F.holds F.synced F.placed F.kept) self.old self.new (Label bytes.now) true) }
     {
@@ -166,7 +157,6 @@ impl<F: CopyFile> FetchSink<F> {
         }
     }
 
-    /// Begins the copy of a volume with this label, whose record is `bytes`.
     fn begin(&mut self, label: &VolumeLabel, bytes: &[u8]) -> io::Result<()>
         requires { IsRecord bytes.now }
         ensures { OnOk result (Steps F.holds self.old self.new (IsCopyOf label.now (Record bytes.now))) }
@@ -175,7 +165,6 @@ impl<F: CopyFile> FetchSink<F> {
         self.add(bytes)
     }
 
-    /// Adds a record to the copy.
     #[tactic(auto, unfolding(tape::specs::RecordFile::length_bytes))]
     fn add(&mut self, bytes: &[u8]) -> io::Result<()>
         requires { IsRecord bytes.now }
@@ -185,8 +174,6 @@ impl<F: CopyFile> FetchSink<F> {
         self.file.append_framed(&length, bytes)
     }
 
-    /// Adds a block of these bytes to the copy. Fails if the bytes are no record, if they are not as
-    /// many as those of the block before, or if they could not be written.
     fn add_block(&mut self, bytes: &[u8]) -> Result<(), FetchFault>
         ensures record_is { OnOk result (IsRecord bytes.now) }
         ensures added { OnOk result (Steps F.holds self.old self.new (IsCopyAdded (image_of (Record bytes.now)) true)) }
@@ -201,7 +188,6 @@ impl<F: CopyFile> FetchSink<F> {
         }
     }
 
-    /// Checks that a block of `bytes` bytes is as long as the one before.
     fn check_length(&self, bytes: usize) -> Result<(), FetchFault> {
         match &self.volume {
             Some(volume) if volume.blocks > 0 && volume.block_bytes != bytes => {
@@ -212,7 +198,6 @@ impl<F: CopyFile> FetchSink<F> {
         }
     }
 
-    /// Adds a mark to the copy.
     #[tactic(auto, unfolding(tape::specs::RecordFile::length_bytes))]
     fn add_mark(&mut self) -> io::Result<()>
         ensures { OnOk result (Steps F.holds self.old self.new (IsCopyAdded (image_of Mark) true)) }
@@ -220,7 +205,6 @@ impl<F: CopyFile> FetchSink<F> {
         self.file.append_framed(&[], &MARK_LENGTH.to_le_bytes())
     }
 
-    /// Adds the mark to the copy, and keeps it.
     fn finish(&mut self) -> io::Result<()>
         ensures { IsOk result → (copy : PlainCopy) → F.holds self.old (Some copy) → F.kept self.new (with_bytes (image_of Mark) copy) }
     {
@@ -232,17 +216,6 @@ impl<F: CopyFile> FetchSink<F> {
 }
 
 impl<F: CopyFile> VolumeSink for FetchSink<F> {
-    // label: The sink accepts the first record of a volume only if the record is a label. The copy
-    // of this label then contains the record, written as a record file has it, and nothing else.
-    //
-    // block: The sink accepts a block only if the block has 1 to 262,144 bytes. The block is then
-    // added to the copy, written as a record file has it.
-    //
-    // mark: The mark does not change the copy yet.
-    //
-    // complete: The sink completes a volume only after it has added one mark to the copy, and the
-    // copy is kept.
-
     ghost takes = { CopyStep (copy_kind F.holds F.synced F.placed F.kept) };
 
     fn label(&mut self, record: &[u8]) -> Verdict {

@@ -1,10 +1,10 @@
 -- A record file that is compared with a catalog. Public contracts cite it.
 use Rattle.std.specs.Prelude.{◌≡◌, ℕ, List, Option, Some, None}
 use Rattle.dump_run.specs.Label.{PlainLabel}
-use Rattle.reel_check.specs.declared.contents.ReelContents.{ReelContents}
-use Rattle.reel_check.specs.declared.holding.Holding.TheVariants as holdings
-use Rattle.reel_check.specs.declared.holding.Volume.{Volume}
-use Rattle.reel_check.specs.declared.holding.VolumeEnd.TheVariants.{OneMark}
+use Rattle.volume_check.specs.declared.contents.ReelContents.{ReelContents}
+use Rattle.volume_check.specs.declared.holding.Holding.TheVariants as holdings
+use Rattle.volume_check.specs.declared.holding.Volume.{Volume}
+use Rattle.volume_check.specs.declared.holding.VolumeEnd.TheVariants.{OneMark}
 use Rattle.sha2.specs.Sha256.{sha256}
 use Rattle.catalog.specs.Verdict.{IsVerdict}
 use Rattle.catalog.specs.declared.line.CatalogLine.{CatalogLine}

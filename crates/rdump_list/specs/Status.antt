@@ -1,7 +1,7 @@
 -- The exit statuses of `rdump ls`.
 use Rattle.std.specs.Prelude.{Bool, true, false, Option, Some, None}
-use Rattle.exit_status.specs.declared.status.ExitStatus.{ExitStatus}
-use Rattle.exit_status.specs.declared.status.ExitStatus.TheVariants.{Success, StartupError, Abnormal}
+use Rattle.console.specs.declared.status.ExitStatus.{ExitStatus}
+use Rattle.console.specs.declared.status.ExitStatus.TheVariants.{Success, StartupError, Abnormal}
 use Rattle.catalog.specs.declared.verdict.SumVerdict.{SumVerdict}
 use Rattle.catalog.specs.declared.verdict.SumVerdict.TheVariants.{Equal, Differs, Anew, Void, Unknown}
 

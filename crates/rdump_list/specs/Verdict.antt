@@ -1,11 +1,11 @@
 -- The verdict on a reel, in words. Public contracts cite it.
 use Rattle.std.specs.Prelude.{◌≡◌, ℕ, Bool, true, false, List, ◌++◌, codes, decimal, if◌then◌else◌, nat_eq}
-use Rattle.reel_check.specs.declared.contents.ReelContents.{ReelContents}
-use Rattle.reel_check.specs.declared.holding.Holding.{Holding}
-use Rattle.reel_check.specs.declared.holding.Holding.TheVariants.{Empty, Volume, Foreign}
-use Rattle.reel_check.specs.declared.holding.Volume as volumes
-use Rattle.reel_check.specs.declared.holding.VolumeEnd.{VolumeEnd}
-use Rattle.reel_check.specs.declared.holding.VolumeEnd.TheVariants.{NoMark, OneMark, MoreAfterMark}
+use Rattle.volume_check.specs.declared.contents.ReelContents.{ReelContents}
+use Rattle.volume_check.specs.declared.holding.Holding.{Holding}
+use Rattle.volume_check.specs.declared.holding.Holding.TheVariants.{Empty, Volume, Foreign}
+use Rattle.volume_check.specs.declared.holding.Volume as volumes
+use Rattle.volume_check.specs.declared.holding.VolumeEnd.{VolumeEnd}
+use Rattle.volume_check.specs.declared.holding.VolumeEnd.TheVariants.{NoMark, OneMark, MoreAfterMark}
 
 -- whether exactly one mark and nothing else follows the blocks of a volume
 abbrev pub is_end : VolumeEnd → Bool

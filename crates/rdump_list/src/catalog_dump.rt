@@ -13,17 +13,18 @@ use std::alloc::{AllocError, Global};
 /// Whether a dump of a catalog is finished, and which of its volumes are missing.
 #[derive(Drop)]
 pub enum CatalogDump {
-    /// No line in force says that the dump is finished.
+    /// The last line of the dump does not say that it is finished.
     NotFinished,
     /// The dump is finished.
     Finished {
-        /// The volumes that are missing, in order. It is empty if all volumes are there.
+        /// The volumes that are missing, in order.
         missing: Vec<VolumeRange>,
     },
 }
 
 /// Returns which volumes of a dump of a catalog are missing, given these reels of whole volumes.
-/// Returns None if the catalog has no such dump.
+/// Looks only at the lines after the last one with which the dump began. Returns None if no line
+/// says that it began.
 ///
 /// A reel counts as a volume of the dump only if its verdict is `Equal`, and its label is that of
 /// the line in force of this volume.
@@ -35,11 +36,6 @@ pub fn dump_in(
     id: &DumpId,
     reels: &[JudgedReel<'_>],
 ) -> Result<Option<CatalogDump>, AllocError>
-    // The call looks only at the lines that follow the last one with which the dump began. If no
-    // line says that the dump began, the call returns `None`. If none of the lines in force says
-    // that the dump is finished, the call returns `NotFinished`. Otherwise it returns the missing
-    // volumes. The volumes of the finished dump are numbered from 1. One of them is missing if no
-    // reel has the verdict `Equal` and the label of the volume's line in force.
     ensures { IfOk result (IsFoundIn catalog.now id.now reels.now) }
 {
     match catalog.run(id) {
@@ -48,7 +44,6 @@ pub fn dump_in(
     }
 }
 
-/// Returns what is there of the dump with these lines.
 fn run_found(
     alloc: Global,
     run: &CatalogRun<'_>,
@@ -66,7 +61,6 @@ fn run_found(
     }
 }
 
-/// Returns the numbers of the volumes that are there.
 fn numbers_of(
     alloc: Global,
     run: &CatalogRun<'_>,
@@ -84,9 +78,8 @@ fn numbers_of(
 }
 
 impl CatalogDump {
-    /// Whether all volumes of the dump are there.
+    /// Whether the dump is finished and no volume is missing.
     pub fn is_complete(&self) -> bool
-        // Returns true if and only if the dump is finished and no volume is missing.
         ensures { IsTrue result ↔ IsAllThere self.now }
     {
         match self {
@@ -98,8 +91,6 @@ impl CatalogDump {
     /// Appends what is there, in words: `all volumes`, `not finished`, `missing: volume 2`, or
     /// `missing: volumes 2 to 3, 5`. Fails if an allocation fails.
     pub fn push(&self, text: &mut Vec<u8>) -> Result<(), AllocError>
-        // Appends `not finished` if the dump is not finished, `all volumes` if no volume is missing,
-        // and otherwise `missing: ` and the missing volumes.
         ensures { OnOk result (text.new.items ≡ text.old.items ++ found_text self.now) }
     {
         match self {
@@ -109,7 +100,6 @@ impl CatalogDump {
     }
 }
 
-/// Appends which volumes of a finished dump are missing.
 fn push_finished(text: &mut Vec<u8>, missing: &[VolumeRange]) -> Result<(), AllocError>
     ensures { OnOk result (text.new.items ≡ text.old.items ++ missing_text missing.now) }
 {
@@ -124,7 +114,6 @@ fn push_finished(text: &mut Vec<u8>, missing: &[VolumeRange]) -> Result<(), Allo
     push_more(text, more)
 }
 
-/// Appends ranges of volumes after another one.
 fn push_more(text: &mut Vec<u8>, ranges: &[VolumeRange]) -> Result<(), AllocError>
     ensures { OnOk result (text.new.items ≡ text.old.items ++ flat_map next_range_text ranges.now) }
 {
@@ -134,7 +123,6 @@ fn push_more(text: &mut Vec<u8>, ranges: &[VolumeRange]) -> Result<(), AllocErro
     Ok(())
 }
 
-/// Appends a range of volumes after another one.
 fn push_next(text: &mut Vec<u8>, range: &VolumeRange) -> Result<(), AllocError>
     ensures { OnOk result (text.new.items ≡ text.old.items ++ next_range_text range.now) }
 {
@@ -142,7 +130,6 @@ fn push_next(text: &mut Vec<u8>, range: &VolumeRange) -> Result<(), AllocError>
     push_range(text, range)
 }
 
-/// Appends a range of volumes: `2 to 3`, or `5` for one of them.
 fn push_range(text: &mut Vec<u8>, range: &VolumeRange) -> Result<(), AllocError>
     ensures { OnOk result (text.new.items ≡ text.old.items ++ range_text range.now) }
 {

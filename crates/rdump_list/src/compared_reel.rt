@@ -3,20 +3,19 @@ ghost use Rattle.std.specs.Prelude.{◌≡◌, ◌<◌, List, ℕ, IfOk, IfSome,
 ghost use Rattle.tape.specs.Tape.{PlainEntry};
 ghost use Rattle.tape.specs.Failures.{HasRisen, Steps};
 ghost use Rattle.tape.specs.RecordFile.{SpellsReel};
-ghost use Rattle.reel_check.specs.Contents.{IsContents};
+ghost use Rattle.volume_check.specs.Contents.{IsContents};
 ghost use Rattle.dump_run.specs.Label.{PlainLabel};
 ghost use Rattle.rdump_list.specs.ComparedReel.{IsReelCompared, IsWholeVolume};
 
 use crate::verdict::is_one_mark;
 use catalog::{Catalog, SumVerdict};
 use dump_run::VolumeLabel;
-use reel_check::{Holding, ReelContents, check_reel};
 use tape::{Medium, MediumFailed};
-use volume_sum::medium_sum;
+use volume_check::{Holding, ReelContents, check_reel, medium_sum};
 
-/// Reads a reel, as `check_reel` does, and compares the SHA-256 of the reel's bytes with the lines
-/// of a catalog. Returns what the reel holds, and what the comparison found. If the reel is not
-/// whole, nothing is compared.
+/// Reads a reel, as `check_reel` does, and compares the SHA-256 of its bytes with the lines of a
+/// catalog, as `Catalog::compare` does. Returns what the reel holds, and what the comparison found.
+/// If the reel is not whole, nothing is compared.
 ///
 /// The bytes of each record are read, in pieces as long as `room`, so that a read error of the disk
 /// is noticed. `room` must not be empty. The medium is not changed. Allocates nothing.
@@ -28,22 +27,11 @@ pub fn compare_reel<M: Medium>(
     catalog: &Catalog,
 ) -> Result<(ReelContents, Option<SumVerdict>), MediumFailed>
     requires { 0 < length room.old }
-    // The following promises hold if the medium's contract says which bytes the reel contains. If
-    // the call succeeds, it returns what `check_reel` returns. The call also returns a `SumVerdict`
-    // if and only if the reel is a whole volume with one mark and no bytes after the mark. For the
-    // `SumVerdict`, the call compares the volume's label and the SHA-256 of all bytes of the reel
-    // with the lines of the catalog, as `Catalog::compare` does.
     ensures compared { (bytes : List ℕ) (entries : List PlainEntry) → M.holds medium.old bytes → SpellsReel bytes entries →
         IfOk result (λ found. IsContents found.0 bytes entries × IsReelCompared catalog.now bytes found.0 found.1) }
-    // If the medium's contract says which bytes the reel contains, the call does not change these
-    // bytes.
     ensures same { Steps M.holds medium.old medium.new (λ old new. new ≡ old) }
-    // If the call fails, the medium's count of failed calls has increased, or has its greatest
-    // value.
     ensures failed { OnErr result (HasRisen (M.failures medium.old) (M.failures medium.new)) }
-    // If the medium cannot fail, the call succeeds.
     ensures able { OnErr result (M.can_fail medium.old) }
-    // If the call succeeds, the medium's count of failed calls is unchanged.
     ensures quiet { OnOk result (M.failures medium.new ≡ M.failures medium.old) }
 {
     let contents = check_reel(medium, &mut [])?;
@@ -58,8 +46,7 @@ pub fn compare_reel<M: Medium>(
     Ok((contents, verdict))
 }
 
-/// Returns the label of a reel that is a whole volume without a tail.
-fn whole_label(contents: &ReelContents) -> Option<&VolumeLabel>
+pub(crate) fn whole_label(contents: &ReelContents) -> Option<&VolumeLabel>
     ensures some { IfSome result (λ label. IsWholeVolume contents.now label.now) }
     ensures none { IsNone result → (label : PlainLabel) → IsWholeVolume contents.now label → ⊥ }
 {

@@ -7,12 +7,11 @@ use dump_run::{DumpId, VolumeLabel};
 use dumpdates::utc_text;
 use std::alloc::AllocError;
 
-/// Appends a text, a date, and the date in UTC in brackets: ` date 951782400 (2000-02-29 00:00:00)`.
+/// Appends a text, a date, and its UTC text in brackets: ` date 951782400 (2000-02-29 00:00:00)`.
 /// Appends no brackets after a date above `dumpdates::LAST_SECOND`.
 ///
 /// Fails if an allocation fails.
 pub fn push_date(text: &mut Vec<u8>, before: &[u8], date: u64) -> Result<(), AllocError>
-    // Appends the given text, the date in decimal, and the date in UTC in brackets.
     ensures { OnOk result (text.new.items ≡ text.old.items ++ dated before.now date) }
 {
     push_count(text, before, date, b"")?;
@@ -26,13 +25,11 @@ pub fn push_date(text: &mut Vec<u8>, before: &[u8], date: u64) -> Result<(), All
     }
 }
 
-/// Appends the name, the level and the dates of a dump, each date with its UTC text in brackets. The
-/// base date 0 gets no text: the dump has no base.
+/// Appends the name, the level and the dates of a dump, each date with its UTC text in brackets.
+/// The base date 0 gets no text: the dump has no base.
 ///
 /// Fails if an allocation fails.
 pub fn push_dated_id(text: &mut Vec<u8>, id: &DumpId) -> Result<(), AllocError>
-    // Appends the name, the level and both dates of the dump. The date has its text in UTC in
-    // brackets, and the base date too unless it is 0.
     ensures { OnOk result (text.new.items ≡ text.old.items ++ dated_id id.now) }
 {
     text.extend_from_slice(id.name().as_bytes())?;
@@ -51,9 +48,6 @@ pub fn push_dated_volume(
     blocks: u64,
     block_bytes: u64,
 ) -> Result<(), AllocError>
-    // Appends the name, the level and both dates of the volume's dump, the volume's number, its
-    // first block, the number of blocks and the size of a block. The date has its text in UTC in
-    // brackets, and the base date too unless it is 0.
     ensures { OnOk result (text.new.items ≡ text.old.items ++ dated_volume label.now blocks block_bytes) }
 {
     push_dated_id(text, label.id())?;
@@ -63,7 +57,6 @@ pub fn push_dated_volume(
     push_count(text, b" blocks of ", block_bytes, b" bytes")
 }
 
-/// Appends a base date.
 fn push_since(text: &mut Vec<u8>, since: u64) -> Result<(), AllocError>
     ensures { OnOk result (text.new.items ≡ text.old.items ++ dated_since since) }
 {

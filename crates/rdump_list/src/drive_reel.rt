@@ -1,15 +1,11 @@
-//! Reading the first reel of a drive's stack over a connection. Nothing is written.
-//!
-//! `reel` collects what was read of the reel.
-//!
-//! Only operations that were done decide: a refusal may be a fault of the device, and a read that
-//! returns nothing met a mark or the end.
+//! Reads the first reel of a drive's stack over a connection. Only operations that were done
+//! decide: a refusal may be a fault of the device, and a read that returns nothing met a mark or
+//! the end.
 ghost use Rattle.rmt_wire.specs.Number.{IsLine};
 
 use crate::ListSystem;
 use crate::progress::ListProgress;
 use crate::undetermined::Undetermined;
-use reel_check::{Holding, ReelTally};
 use remote_tape::{CallFault, MarkSearch, Peer, RemoteTape, TapeCause, TapeFault, find_mark};
 use rmt_wire::RECORD_LIMIT;
 use rmt_wire::errno::EIO;
@@ -18,29 +14,56 @@ use rmt_wire::mtio::{MTBSF, MTBSR, MTFSF};
 use std::alloc::Global;
 use std::io::Write;
 use tape::is_record;
-use volume_sum::EntryHasher;
+use volume_check::{EntryHasher, Holding, ReelContents, ReelTally};
 
-/// The longest record that is read.
 const LONGEST: u32 = RECORD_LIMIT as u32;
 
-/// What was read of a drive's reel, and what shows that on a terminal, if there is one.
+/// A drive's reel, as far as it was read.
 #[derive(Drop)]
 pub(crate) struct DriveReel<'a, R: ListSystem, T: Write + Drop> {
-    entries: DriveEntries,
+    tally: ReelTally,
+    /// The sum of their record file, if that is compared.
+    hasher: Option<EntryHasher>,
     progress: Option<ListProgress<'a, R, T>>,
 }
 
-/// The entries that were read of a drive's reel.
-#[derive(Drop)]
-pub(crate) struct DriveEntries {
-    /// What they are.
-    pub(crate) tally: ReelTally,
-    /// The sum of their record file, if that is compared.
-    pub(crate) hasher: Option<EntryHasher>,
-}
+impl<'a, R: ListSystem, T: Write + Drop> DriveReel<'a, R, T> {
+    /// The sum is computed if `is_summed`.
+    pub(crate) fn new(is_summed: bool, mut progress: Option<ListProgress<'a, R, T>>) -> Self {
+        if let Some(progress) = &mut progress {
+            progress.begin_reel();
+        }
+        DriveReel {
+            tally: ReelTally::new(),
+            hasher: is_summed.then(EntryHasher::new),
+            progress,
+        }
+    }
 
-impl DriveEntries {
-    /// Adds a record.
+    /// Returns the contents that were read, with 0 for `bytes` and `tail`, which are not known, and
+    /// their sum. Clears the line of progress.
+    pub(crate) fn into_contents(mut self) -> (ReelContents, Option<EntryHasher>) {
+        if let Some(progress) = &mut self.progress {
+            progress.clear();
+        }
+        let (records, marks) = (self.tally.records(), self.tally.marks());
+        let contents = ReelContents {
+            holding: self.tally.into_holding(),
+            records,
+            marks,
+            bytes: 0,
+            tail: 0,
+        };
+        (contents, self.hasher)
+    }
+
+    fn mark(&mut self) {
+        self.tally.mark();
+        if let Some(hasher) = &mut self.hasher {
+            hasher.mark();
+        }
+    }
+
     fn record(&mut self, record: &[u8]) {
         self.tally.record(record);
         if let Some(hasher) = &mut self.hasher {
@@ -48,61 +71,26 @@ impl DriveEntries {
                 hasher.record(record);
             }
         }
-    }
-
-    /// Adds a mark.
-    fn mark(&mut self) {
-        self.tally.mark();
-        if let Some(hasher) = &mut self.hasher {
-            hasher.mark();
+        if let Some(progress) = &mut self.progress {
+            progress.add(record.len());
         }
     }
 }
 
-impl<'a, R: ListSystem, T: Write + Drop> DriveReel<'a, R, T> {
-    /// Makes one of which nothing was read. Its sum is computed if `is_summed`. `terminal` shows
-    /// the records, if there is one.
-    pub(crate) fn new(rt: &'a R, is_summed: bool, terminal: Option<T>) -> Self {
-        let mut progress = ListProgress::at(rt, terminal);
-        if let Some(progress) = &mut progress {
-            progress.begin_reel();
-        }
-        DriveReel {
-            entries: DriveEntries {
-                tally: ReelTally::new(),
-                hasher: if is_summed {
-                    Some(EntryHasher::new())
-                } else {
-                    None
-                },
-            },
-            progress,
-        }
-    }
+/// Why a reel was not read to its end.
+enum Stopped {
+    Undetermined(Undetermined),
+    NoReply(TapeFault),
+}
 
-    /// Clears the line of progress, and returns the entries that were read.
-    pub(crate) fn into_entries(mut self) -> DriveEntries {
-        if let Some(progress) = &mut self.progress {
-            progress.clear();
-        }
-        self.entries
-    }
-
-    /// Returns what the entries that were read are.
-    fn tally(&self) -> &ReelTally {
-        &self.entries.tally
-    }
-
-    /// Adds a mark.
-    fn mark(&mut self) {
-        self.entries.mark();
-    }
-
-    /// Adds a record.
-    fn record(&mut self, record: &[u8]) {
-        self.entries.record(record);
-        if let Some(progress) = &mut self.progress {
-            progress.add(record.len());
+impl From<TapeFault> for Stopped {
+    fn from(fault: TapeFault) -> Self {
+        let request = fault.request;
+        match fault.cause {
+            TapeCause::Refused(number) => {
+                Stopped::Undetermined(Undetermined::Refused { request, number })
+            }
+            TapeCause::NoReply(_) => Stopped::NoReply(fault),
         }
     }
 }
@@ -110,10 +98,9 @@ impl<'a, R: ListSystem, T: Write + Drop> DriveReel<'a, R, T> {
 /// Reads the first reel on the stack of this drive, over a connection of its own, and adds its
 /// entries to `reel`.
 ///
-/// Returns why the reel's contents could not be determined, if so. Fails if the connection cannot
-/// be made, the open is refused, or a request gets no reply. Then nothing more is sent.
-///
-/// The device is one line of at most `LINE_LIMIT` bytes.
+/// Returns why the reel's contents could not be determined, if so. Fails if an allocation fails,
+/// the connection cannot be made, the open is refused, or a request gets no reply. Then nothing
+/// more is sent.
 pub(crate) fn read_drive<P: Peer, R: ListSystem, T: Write + Drop>(
     alloc: Global,
     peer: &mut P,
@@ -133,8 +120,8 @@ pub(crate) fn read_drive<P: Peer, R: ListSystem, T: Write + Drop>(
     told
 }
 
-/// Opens the drive, reads its reel, and closes it. It ignores the reply to the close. A refusal
-/// after the open means that the reel's contents cannot be determined.
+/// A refusal after the open means that the reel's contents cannot be determined. The reply to the
+/// close is ignored.
 fn read_open<P: Peer, R: ListSystem, T: Write + Drop>(
     tape: &mut RemoteTape,
     peer: &mut P,
@@ -145,71 +132,62 @@ fn read_open<P: Peer, R: ListSystem, T: Write + Drop>(
 {
     tape.open(peer, device, O_RDONLY)?;
     let told = match read_reel(tape, peer, reel) {
-        Ok(told) => told,
-        Err(TapeFault { request, cause }) => match cause {
-            TapeCause::Refused(number) => Some(Undetermined::Refused { request, number }),
-            TapeCause::NoReply(_) => return Err(TapeFault { request, cause }),
-        },
+        Ok(()) => None,
+        Err(Stopped::Undetermined(why)) => Some(why),
+        Err(Stopped::NoReply(fault)) => return Err(fault),
     };
     let _ = tape.close(peer);
     Ok(told)
 }
 
-/// Reads the reel of the opened drive, and adds its entries to `reel`. Returns why the contents
-/// could not be determined, if so.
 fn read_reel<P: Peer, R: ListSystem, T: Write + Drop>(
     tape: &mut RemoteTape,
     peer: &mut P,
     reel: &mut DriveReel<'_, R, T>,
-) -> Result<Option<Undetermined>, TapeFault> {
+) -> Result<(), Stopped> {
     tape.rewind(peer)?;
-    if !read_records(tape, peer, reel)? {
-        return Ok(Some(Undetermined::TooManyRecords));
-    }
-    match reel.tally().holding() {
-        Holding::Foreign => Ok(None),
+    read_records(tape, peer, reel)?;
+    match reel.tally.holding() {
+        Holding::Foreign => Ok(()),
         Holding::Empty => look_for_mark(tape, peer, reel),
         Holding::Volume(_) => look_after(tape, peer, reel),
     }
 }
 
-/// Reads record after record until a read returns nothing, or until the records are no volume.
-/// Returns false if neither comes.
+/// Reads until a read returns nothing, or until the records are no volume.
 fn read_records<P: Peer, R: ListSystem, T: Write + Drop>(
     tape: &mut RemoteTape,
     peer: &mut P,
     reel: &mut DriveReel<'_, R, T>,
-) -> Result<bool, TapeFault> {
+) -> Result<(), Stopped> {
     for _ in 0..u64::MAX {
         let record = tape.read(peer, LONGEST)?;
         if record.is_empty() {
-            return Ok(true);
+            return Ok(());
         }
         reel.record(record);
-        if matches!(reel.tally().holding(), Holding::Foreign) {
-            return Ok(true);
+        if matches!(reel.tally.holding(), Holding::Foreign) {
+            return Ok(());
         }
     }
-    Ok(false)
+    Err(Stopped::Undetermined(Undetermined::TooManyRecords))
 }
 
-/// Looks for a mark at the beginning, after the first read returned nothing. If spacing over one is
-/// refused, the reel may be empty.
+/// Looks for a mark, after the first read returned nothing. If spacing over one is refused, the
+/// reel may be empty.
 fn look_for_mark<P: Peer, R: ListSystem, T: Write + Drop>(
     tape: &mut RemoteTape,
     peer: &mut P,
     reel: &mut DriveReel<'_, R, T>,
-) -> Result<Option<Undetermined>, TapeFault> {
+) -> Result<(), Stopped> {
     tape.rewind(peer)?;
-    match tape.space(peer, MTFSF, 1) {
+    match tape.space(peer, MTFSF, 1).map_err(Stopped::from) {
         Ok(()) => {
             reel.mark();
-            Ok(None)
+            Ok(())
         }
-        Err(fault) => match fault.cause {
-            TapeCause::Refused(_) => Ok(Some(Undetermined::NoRecord)),
-            TapeCause::NoReply(_) => Err(fault),
-        },
+        Err(Stopped::Undetermined(_)) => Err(Stopped::Undetermined(Undetermined::NoRecord)),
+        Err(stopped) => Err(stopped),
     }
 }
 
@@ -218,22 +196,23 @@ fn look_after<P: Peer, R: ListSystem, T: Write + Drop>(
     tape: &mut RemoteTape,
     peer: &mut P,
     reel: &mut DriveReel<'_, R, T>,
-) -> Result<Option<Undetermined>, TapeFault> {
-    match find_mark(tape, peer, reel.tally().records())? {
-        MarkSearch::Found => reel.mark(),
-        MarkSearch::Missing => return Ok(None),
-        MarkSearch::Refused { request, number } => {
-            return Ok(Some(Undetermined::Refused { request, number }));
+) -> Result<(), Stopped> {
+    let why = match find_mark(tape, peer, reel.tally.records())? {
+        MarkSearch::Found => {
+            reel.mark();
+            let record = tape.read(peer, LONGEST)?;
+            if !record.is_empty() {
+                reel.record(record);
+            } else if has_second_mark(tape, peer)? {
+                reel.mark();
+            }
+            return Ok(());
         }
-        MarkSearch::TooManyRecords => return Ok(Some(Undetermined::TooManyRecords)),
-    }
-    let record = tape.read(peer, LONGEST)?;
-    if !record.is_empty() {
-        reel.record(record);
-    } else if has_second_mark(tape, peer)? {
-        reel.mark();
-    }
-    Ok(None)
+        MarkSearch::Missing => return Ok(()),
+        MarkSearch::Refused { request, number } => Undetermined::Refused { request, number },
+        MarkSearch::TooManyRecords => Undetermined::TooManyRecords,
+    };
+    Err(Stopped::Undetermined(why))
 }
 
 /// Whether the read right after the first mark, which returned nothing, passed a second one. If a
@@ -243,13 +222,11 @@ fn has_second_mark<P: Peer>(tape: &mut RemoteTape, peer: &mut P) -> Result<bool,
     tape.space(peer, MTBSF, 1)?;
     match tape.space(peer, MTBSR, 1) {
         Ok(()) => Ok(false),
-        Err(fault) => {
-            if !fault.cause.is_refused_with(EIO) {
-                return Err(fault);
-            }
+        Err(fault) if fault.cause.is_refused_with(EIO) => {
             tape.rewind(peer)?;
             tape.space(peer, MTFSF, 2)?;
             Ok(true)
         }
+        Err(fault) => Err(fault),
     }
 }

@@ -2,44 +2,32 @@
 use crate::ListSystem;
 use crate::dated::push_date;
 use crate::dump_found::DumpFound;
-use crate::fault::report;
+use crate::fault::{ListFault, at};
+use crate::order::reels_of;
 use crate::printer::Printer;
 use crate::reel::ListedReel;
 use crate::verdict::push_count;
-use dumpdates::{Dates, DatesFault, Entry};
-use named_files::{ZonedLine, read_named};
-use printable::plain;
+use dumpdates::{Dates, DatesFault};
+use linux_dates::ZonedLine;
 use std::alloc::{AllocError, Global};
 use std::io::Write;
+use whole_files::read_named;
 
-/// Reads the dumpdates file at this path. If it cannot be read or is not valid, it prints why and
-/// returns None. Fails if an allocation fails.
-pub(crate) fn read_dates<R: ListSystem>(rt: &R, path: &str) -> Result<Option<Dates>, AllocError> {
-    let bytes = match read_named(rt, rt.alloc(), path) {
-        Ok(bytes) => bytes,
-        Err(error) => {
-            report(rt, path, error)?;
-            return Ok(None);
-        }
-    };
+pub(crate) fn dates_at<'a, R: ListSystem>(rt: &R, path: &'a str) -> Result<Dates, ListFault<'a>> {
+    let bytes = at(path, read_named(rt, rt.alloc(), path))?;
     match Dates::read(rt.alloc(), &bytes) {
-        Ok(dates) => Ok(Some(dates)),
-        Err(DatesFault::OutOfMemory) => Err(AllocError),
+        Ok(dates) => Ok(dates),
+        Err(DatesFault::OutOfMemory) => Err(ListFault::OutOfMemory),
         Err(fault) => {
             let zoned = ZonedLine::find(rt.alloc(), &bytes, fault);
-            let path = plain(path);
-            let _ = eprintln!(rt; "rdump: {path}: {fault}");
-            if let Some(line) = zoned {
-                let _ = eprintln!(rt; "rdump: {path}: {line}");
-            }
-            Ok(None)
+            Err(ListFault::NoDates(path, fault, zoned))
         }
     }
 }
 
-/// Prints an empty line, and one line for each dump of a dumpdates file: what was found of it on
-/// these reels. The reels must be sorted. `blocks` is the number of blocks of each dump, if given.
-/// Returns whether nothing is missing. Fails if an allocation fails.
+/// Prints an empty line, and a line for each dump of a dumpdates file: what was found of it on
+/// these reels, which must be sorted. `blocks` is the number of blocks of each dump, if given.
+/// Returns whether nothing is missing.
 pub(crate) fn print_dumps<W: Write>(
     alloc: Global,
     out: &mut Printer<W>,
@@ -47,32 +35,21 @@ pub(crate) fn print_dumps<W: Write>(
     dates: &Dates,
     blocks: Option<u64>,
 ) -> Result<bool, AllocError> {
-    out.print(b"\n")?;
+    out.end_line()?;
     let mut is_complete = true;
     for at in 0..dates.len() {
         if let Some(entry) = dates.get(at) {
-            let found = DumpFound::of(alloc, reels, entry)?;
+            let reels = reels_of(reels, entry.name, entry.level, entry.date);
+            let found = DumpFound::of(alloc, reels)?;
             is_complete = is_complete && found.is_complete(blocks);
-            print_dump(alloc, out, entry, found, blocks)?;
+            let line = &mut out.line;
+            line.extend_from_slice(entry.name.as_bytes())?;
+            push_count(line, b" level ", u64::from(entry.level), b"")?;
+            push_date(line, b" date ", entry.date)?;
+            line.extend_from_slice(b": ")?;
+            found.push(line, blocks)?;
+            out.end_line()?;
         }
     }
     Ok(is_complete)
-}
-
-/// Prints the line of a dump.
-fn print_dump<W: Write>(
-    alloc: Global,
-    out: &mut Printer<W>,
-    entry: Entry<'_>,
-    found: DumpFound,
-    blocks: Option<u64>,
-) -> Result<(), AllocError> {
-    let mut line = Vec::new(alloc);
-    line.extend_from_slice(entry.name.as_bytes())?;
-    push_count(&mut line, b" level ", u64::from(entry.level), b"")?;
-    push_date(&mut line, b" date ", entry.date)?;
-    line.extend_from_slice(b": ")?;
-    found.push(&mut line, blocks)?;
-    line.extend_from_slice(b"\n")?;
-    out.print(&line)
 }

@@ -15,8 +15,6 @@ pub struct JudgedReel<'a> {
 }
 
 impl<'a> JudgedReel<'a> {
-    /// Whether the reel counts as a volume of a dump: its sum is equal, and its label is that of a
-    /// line in force.
     pub(crate) fn is_of(&self, run: &CatalogRun<'_>) -> bool
         ensures { IsTrue result ↔ IsVolumeOf run.now self.now.label.now.volume self.now }
     {
@@ -30,7 +28,6 @@ impl<'a> JudgedReel<'a> {
     }
 }
 
-/// Whether two labels are the same.
 fn are_same(one: &VolumeLabel, other: &VolumeLabel) -> bool
     ensures { IsTrue result ↔ (one.now ≡ other.now) }
 {

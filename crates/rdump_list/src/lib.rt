@@ -1,17 +1,15 @@
-//! The command `rdump ls` lists the contents of reels and, for each dump in a dumpdates file, the
-//! dump's volumes on these reels.
+//! The command `rdump ls` lists the contents of reels. It also lists which volumes of the dumps in
+//! a dumpdates file or a catalog are on these reels.
 //!
 //! `run_ls` is the whole command; it uses the runtime through `ListSystem`. It reads record files
-//! in place, and the first reel of a drive's stack over a connection. It writes to neither.
+//! in place, or the first reel of a drive's stack over a connection, and writes to neither.
 //! `push_verdict` appends the verdict on a reel, and `is_whole` decides whether that is `whole`.
-//! With a catalog, `run_ls` also compares the SHA-256 of each whole reel with the lines of its
-//! volume, and says of each dump what is there. `compare_reel` does the first with a record file,
-//! and `dump_in` decides the second. `push_dated_volume` appends the text of a volume with the UTC
-//! text of its dates.
+//! `compare_reel` compares a record file with a catalog, and `dump_in` finds which volumes of a
+//! dump are missing. `push_dated_volume` appends the text of a volume with the UTC text of its
+//! dates.
 //!
-//! `ReelPaths` finds the record files that the arguments name, for other commands too. They read
-//! these files through a `MarkLimit` and a `ShownMedium`, which shows what is read by a
-//! `ListProgress`.
+//! Other commands use `ReelPaths` to find the record files that the arguments name. They read these
+//! files through a `MarkLimit` and a `ShownMedium`, which shows what is read by a `ListProgress`.
 //!
 //! # Contracts
 //!
@@ -19,7 +17,7 @@
 //! began, a volume with this label and this SHA-256 of its record file was counted, or a dump is
 //! finished. The line of a volume is *in force* if it follows the last line with which its dump
 //! began, and no line after it is that of the same volume of the dump, or of an earlier one.
-//! `compare_reel` compares the SHA-256 of a reel with the lines of its volume. The result is a
+//! `compare_reel` compares the SHA-256 of a reel with the lines of its volume and returns a
 //! `SumVerdict`.
 #![tactic(auto)]
 
@@ -28,7 +26,6 @@ mod catalog_dumps;
 mod catalog_file;
 mod compared_reel;
 mod dated;
-mod drive;
 mod drive_reel;
 mod dump_found;
 mod dumps;

@@ -2,43 +2,44 @@
 use crate::dated::push_dated_volume;
 use crate::reel::{ListedReel, Source};
 use crate::verdict::{push_count, push_verdict};
-use printable::plain_char;
-use reel_check::{Holding, ReelContents};
+use console::plain_char;
 use std::alloc::AllocError;
+use volume_check::Holding;
 
-/// Appends the line of a reel, with its line feed: its path, what it contains, and the verdict on
-/// it. Fails if an allocation fails.
+/// Appends the line of a reel, without its line feed. The line of a drive's reel has no counts of
+/// bytes, records and marks.
 pub(crate) fn push_line(text: &mut Vec<u8>, reel: &ListedReel) -> Result<(), AllocError> {
     push_path(text, reel.path.as_str())?;
     text.extend_from_slice(b": ")?;
-    match reel.source {
-        Source::File => {
-            push_contents(text, &reel.contents)?;
-            push_verdict(text, &reel.contents)?;
-        }
-        Source::Drive => {
-            push_drive(text, reel)?;
-            push_verdict(text, &reel.contents)?;
-        }
-        Source::Undetermined(why) => {
-            push_drive(text, reel)?;
-            why.push(text)?;
-        }
+    let (contents, is_file) = (&reel.contents, matches!(reel.source, Source::File));
+    if let Some(volume) = reel.volume() {
+        push_dated_volume(
+            text,
+            &volume.label,
+            volume.blocks,
+            volume.block_bytes as u64,
+        )?;
+        text.extend_from_slice(if is_file { b", " } else { b": " })?;
     }
-    push_sum(text, reel)?;
-    text.extend_from_slice(b"\n")
+    if is_file {
+        if matches!(contents.holding, Holding::Foreign) {
+            push_count(text, b"", contents.records, b" records, ")?;
+            push_count(text, b"", contents.marks, b" marks, ")?;
+        }
+        push_count(text, b"", contents.bytes, b" bytes: ")?;
+    }
+    match reel.source {
+        Source::File | Source::Drive => push_verdict(text, contents)?,
+        Source::Undetermined(why) => why.push(text)?,
+    }
+    if let Some(verdict) = reel.sum {
+        text.extend_from_slice(b", ")?;
+        text.extend_from_slice(verdict.words().as_bytes())?;
+    }
+    Ok(())
 }
 
-/// Appends what the comparison with a catalog found, if there was one.
-fn push_sum(text: &mut Vec<u8>, reel: &ListedReel) -> Result<(), AllocError> {
-    let Some(verdict) = reel.sum else {
-        return Ok(());
-    };
-    text.extend_from_slice(b", ")?;
-    text.extend_from_slice(verdict.words().as_bytes())
-}
-
-/// Appends a path. A character that ends a line or controls a terminal is replaced by `?`.
+/// Appends a path, with `?` for each character that ends a line or controls a terminal.
 fn push_path(text: &mut Vec<u8>, path: &str) -> Result<(), AllocError> {
     for letter in path.chars() {
         let mut room = [0; 4];
@@ -46,42 +47,4 @@ fn push_path(text: &mut Vec<u8>, path: &str) -> Result<(), AllocError> {
         text.extend_from_slice(shown.as_bytes())?;
     }
     Ok(())
-}
-
-/// Appends the numbers of a record file's contents, up to the verdict.
-fn push_contents(text: &mut Vec<u8>, contents: &ReelContents) -> Result<(), AllocError> {
-    match &contents.holding {
-        Holding::Empty => {}
-        Holding::Volume(volume) => {
-            push_dated_volume(
-                text,
-                &volume.label,
-                volume.blocks,
-                volume.block_bytes as u64,
-            )?;
-            text.extend_from_slice(b", ")?;
-        }
-        Holding::Foreign => {
-            push_count(text, b"", contents.records, b" records, ")?;
-            push_count(text, b"", contents.marks, b" marks, ")?;
-        }
-    }
-    push_count(text, b"", contents.bytes, b" bytes: ")
-}
-
-/// Appends the numbers of the contents of a reel on a drive, up to the verdict. Appends nothing if
-/// it is no volume.
-fn push_drive(text: &mut Vec<u8>, reel: &ListedReel) -> Result<(), AllocError> {
-    match reel.volume() {
-        Some(volume) => {
-            push_dated_volume(
-                text,
-                &volume.label,
-                volume.blocks,
-                volume.block_bytes as u64,
-            )?;
-            text.extend_from_slice(b": ")
-        }
-        None => Ok(()),
-    }
 }

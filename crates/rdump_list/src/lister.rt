@@ -1,37 +1,32 @@
-//! Record files, read in place.
-//!
-//! A plain file is a regular file.
+//! Reels, read in place: record files, and the first reel of a drive's stack.
+ghost use Rattle.dump_run.specs.Run.{IsDevice};
+ghost use Rattle.rdump_args.specs.Rdump.{IsListedReels};
+
 use crate::ListSystem;
-use crate::compared_reel::compare_reel;
-use crate::fault::{print_fault, report};
+use crate::compared_reel::{compare_reel, whole_label};
+use crate::drive_reel::{DriveReel, read_drive};
+use crate::fault::{ListFault, at, go_on};
 use crate::mark_limit::MarkLimit;
 use crate::progress::ListProgress;
 use crate::reel::{ListedReel, Source};
-use crate::reel_paths::{ReelPath, open_plain};
+use crate::reel_paths::{ReelPath, ReelPaths, open_plain};
 use crate::shown_medium::ShownMedium;
 use crate::undetermined::Undetermined;
 use catalog::{Catalog, SumVerdict};
 use file_medium::FileMedium;
-use reel_check::{ReelContents, check_reel};
+use rdump_args::ListedReels;
+use rdump_net::SocketPeer;
+use remote_tape::{CallFault, TapeCause};
 use std::alloc::AllocError;
-use std::io::{self, Write};
+use std::io::Write;
+use std::time::Duration;
 use tape::{Medium, MediumFailed};
+use volume_check::{ReelContents, check_reel};
 
 /// How many bytes of a record are read at once.
 const ROOM: usize = 65536;
 
-/// What was found in a record file.
-#[derive(Drop)]
-struct ReelFound {
-    /// What it contains.
-    contents: ReelContents,
-    /// What the comparison of its sum found, if it was compared.
-    sum: Option<SumVerdict>,
-    /// Its source for the line: a file, or why its contents are not determined.
-    source: Source,
-}
-
-/// Reads record files, one after the other, and collects what they contain.
+/// Reads reels, one after the other.
 #[derive(Drop)]
 pub(crate) struct Lister<'a, R: ListSystem, W: Write + Drop> {
     rt: &'a R,
@@ -43,9 +38,8 @@ pub(crate) struct Lister<'a, R: ListSystem, W: Write + Drop> {
 }
 
 impl<'a, R: ListSystem, W: Write + Drop> Lister<'a, R, W> {
-    /// Makes a lister that has read nothing. It compares reels with `catalog`, if given. `terminal`
-    /// shows how far it is, if there is one. It allocates 65,536 bytes. Fails if an allocation
-    /// fails.
+    /// Reels are compared with `catalog`, if given. `terminal` shows how far the list is. Allocates
+    /// 65,536 bytes.
     pub(crate) fn new(
         rt: &'a R,
         catalog: Option<&'a Catalog>,
@@ -64,40 +58,62 @@ impl<'a, R: ListSystem, W: Write + Drop> Lister<'a, R, W> {
         })
     }
 
-    /// Clears the line of progress, and returns the reels that were read, and whether all could be
-    /// read.
+    /// Prints why a reel cannot be read, and goes on.
+    pub(crate) fn read(&mut self, reels: &ListedReels<'_>) -> Result<(), AllocError>
+        requires { IsListedReels reels.now }
+    {
+        match reels {
+            ListedReels::Paths(paths) => self.read_paths(paths),
+            ListedReels::Drive {
+                to,
+                device,
+                timeout,
+            } => {
+                let found = self.drive_reel(to, device, *timeout);
+                self.keep(found.map(Some))
+            }
+        }
+    }
+
+    /// Clears the line of progress. Returns the reels, and whether all could be read.
     pub(crate) fn into_reels(mut self) -> (Vec<ListedReel>, bool) {
         self.clear();
         (self.reels, !self.has_failed)
     }
 
-    /// Reads the record file at this path, if there is one. If it cannot be read, it prints why and
-    /// continues. Fails if an allocation fails.
-    pub(crate) fn read(&mut self, path: &ReelPath) -> Result<(), AllocError> {
-        match path.is_there(self.rt) {
-            Ok(true) => self.read_file(path.path.as_str()),
-            Ok(false) => Ok(()),
-            Err(error) => self.report(path.path.as_str(), error),
+    fn read_paths(&mut self, paths: &[&str]) -> Result<(), AllocError> {
+        let mut named = ReelPaths::new(self.rt);
+        for path in paths {
+            named.add(path)?;
         }
+        let (files, are_found) = named.into_paths();
+        self.has_failed = !are_found;
+        for file in &files {
+            let found = self.file_reel(file);
+            self.keep(found)?;
+        }
+        Ok(())
     }
 
-    /// Reads the plain file at this path.
-    fn read_file(&mut self, path: &str) -> Result<(), AllocError> {
-        match self.contents_of(path) {
-            Ok(Some(found)) => self.keep(path, found),
-            Ok(None) => {
-                self.print_fault(path, "it could not be read");
-                Ok(())
-            }
-            Err(error) => self.report(path, error),
+    /// Adds the reel, if it is there. Prints a fault, and goes on.
+    fn keep(&mut self, found: Result<Option<ListedReel>, ListFault<'_>>) -> Result<(), AllocError> {
+        if found.is_err() {
+            self.clear();
         }
+        match go_on(self.rt, found)? {
+            Some(Some(reel)) => self.reels.push(reel)?,
+            Some(None) => {}
+            None => self.has_failed = true,
+        }
+        Ok(())
     }
 
-    /// Returns what the plain file at this path contains, and what the comparison of its sum found.
-    /// Returns None if the system failed while it was read. Fails if it cannot be opened or is no
-    /// plain file.
-    fn contents_of(&mut self, path: &str) -> io::Result<Option<ReelFound>> {
-        let file = open_plain(self.rt, path)?;
+    fn file_reel<'b>(&mut self, path: &'b ReelPath) -> Result<Option<ListedReel>, ListFault<'b>> {
+        let (rt, named) = (self.rt, path.path.as_str());
+        if !at(named, path.is_there(rt))? {
+            return Ok(None);
+        }
+        let file = at(named, open_plain(rt, named))?;
         let mut shown = ShownMedium {
             medium: MarkLimit::new(FileMedium::new(file)),
             progress: self.progress.take(),
@@ -105,16 +121,65 @@ impl<'a, R: ListSystem, W: Write + Drop> Lister<'a, R, W> {
         if let Some(progress) = &mut shown.progress {
             progress.begin_reel();
         }
-        let found = check(&mut shown, &mut self.room, self.catalog);
+        let read = check(&mut shown, &mut self.room, self.catalog);
         self.progress = shown.progress;
-        let source = source_of(shown.medium.is_over());
-        Ok(
-            found.ok().map(|(contents, sum)| ReelFound {
-                contents,
-                sum,
-                source,
-            }),
-        )
+        let Ok((contents, sum)) = read else {
+            return Err(ListFault::Unfit(named, "it could not be read"));
+        };
+        let source = if shown.medium.is_over() {
+            Source::Undetermined(Undetermined::TooManyMarks)
+        } else {
+            Source::File
+        };
+        Ok(Some(ListedReel {
+            path: String::from_str(rt.alloc(), named)?,
+            contents,
+            source,
+            sum,
+        }))
+    }
+
+    /// Reads the first reel on the stack of this drive. `timeout` limits each wait for the server.
+    fn drive_reel<'b>(
+        &mut self,
+        to: &'b str,
+        device: &'b str,
+        timeout: Option<Duration>,
+    ) -> Result<ListedReel, ListFault<'b>>
+        requires { IsDevice device.now }
+    {
+        let (rt, alloc) = (self.rt, self.rt.alloc());
+        let mut peer = SocketPeer::new(rt, to, timeout);
+        let mut reel = DriveReel::new(self.catalog.is_some(), self.progress.take());
+        let read = read_drive(alloc, &mut peer, device.as_bytes(), &mut reel);
+        let (contents, hasher) = reel.into_contents();
+        let (source, catalog) = match read {
+            Ok(None) => (Source::Drive, self.catalog),
+            Ok(Some(why)) => (Source::Undetermined(why), None),
+            Err(fault) if fault.cause == TapeCause::NoReply(CallFault::OutOfMemory) => {
+                return Err(ListFault::OutOfMemory);
+            }
+            Err(fault) => {
+                return Err(ListFault::NoSession {
+                    to,
+                    device,
+                    fault,
+                    failure: peer.failure().copied(),
+                });
+            }
+        };
+        let sum = match (whole_label(&contents), hasher, catalog) {
+            (Some(label), Some(hasher), Some(catalog)) => {
+                Some(catalog.compare(label, &hasher.sum()))
+            }
+            _ => None,
+        };
+        Ok(ListedReel {
+            path: String::from_str(alloc, device)?,
+            contents,
+            source,
+            sum,
+        })
     }
 
     /// Clears the line of progress.
@@ -123,50 +188,8 @@ impl<'a, R: ListSystem, W: Write + Drop> Lister<'a, R, W> {
             progress.clear();
         }
     }
-
-    /// Adds a record file with its contents to the list.
-    fn keep(&mut self, path: &str, found: ReelFound) -> Result<(), AllocError> {
-        let ReelFound {
-            contents,
-            sum,
-            source,
-        } = found;
-        let path = String::from_str(self.rt.alloc(), path)?;
-        self.reels.push(ListedReel {
-            path,
-            contents,
-            source,
-            sum,
-        })?;
-        Ok(())
-    }
-
-    /// Prints why a path cannot be read, and remembers the failure.
-    fn print_fault(&mut self, path: &str, why: &str) {
-        self.has_failed = true;
-        self.clear();
-        print_fault(self.rt, path, why);
-    }
-
-    /// Prints the system's reason why a path cannot be read, and remembers the failure. Fails if
-    /// the reason is out of memory.
-    fn report(&mut self, path: &str, error: io::Error) -> Result<(), AllocError> {
-        self.has_failed = true;
-        self.clear();
-        report(self.rt, path, error)
-    }
 }
 
-/// Returns the source of a record file, which has too many marks in a row if `is_over`.
-fn source_of(is_over: bool) -> Source {
-    if is_over {
-        Source::Undetermined(Undetermined::TooManyMarks)
-    } else {
-        Source::File
-    }
-}
-
-/// Checks a reel, and compares its sum with a catalog if there is one.
 fn check<M: Medium>(
     medium: &mut M,
     room: &mut [u8; ROOM],

@@ -5,11 +5,9 @@ use file_medium::FileMedium;
 use std::marker::Model;
 use tape::{LENGTH_BYTES, Medium, MediumFailed};
 
-/// How many marks may follow one another. A file of zeros is nothing but marks, and a sparse one
-/// may have more of them than can be read in a day.
+/// A file of zeros is nothing but marks, and a sparse one may have more than can be read in a day.
 const MOST_MARKS: u32 = 1_000_000;
 
-/// The bytes of a mark.
 const MARK: [u8; LENGTH_BYTES as usize] = [0; LENGTH_BYTES as usize];
 
 /// A record file with at most 1,000,000 marks in a row: after these, a read of a length returns no
@@ -23,7 +21,7 @@ pub struct MarkLimit {
 }
 
 impl MarkLimit {
-    /// Makes the limited medium of this one, of which nothing was read.
+    /// Limits the marks in a row of this medium.
     pub fn new(medium: FileMedium) -> Self {
         MarkLimit {
             medium,
@@ -38,8 +36,8 @@ impl MarkLimit {
         self.is_over
     }
 
-    /// Counts a length that was read at this offset, if it is a mark. Returns whether there are too
-    /// many in a row.
+    /// Counts the length read at this offset, if it is a mark. Returns whether there are too many
+    /// in a row.
     fn counts_too_many(&mut self, at: u64, length: &[u8]) -> bool
         ensures { self.new ≡ self.old }
     {

@@ -14,8 +14,6 @@ pub struct VolumeRange {
     pub last: u32,
 }
 
-/// Returns the volumes from 1 to `volumes` that are missing, given the numbers of those that are
-/// there. Fails if an allocation fails.
 pub(crate) fn missing_of(
     alloc: Global,
     there: &[u32],
@@ -39,8 +37,6 @@ pub(crate) fn missing_of(
     Ok(missing)
 }
 
-/// Returns the least of these numbers that is at least `from`. Returns `volumes + 1` if none of them
-/// is in this range.
 fn next_there(there: &[u32], from: u32, volumes: u32) -> u32
     requires { (from ≤ volumes) × (volumes ≤ blocks_limit) }
     ensures { IsLeastFrom there.now from volumes result }

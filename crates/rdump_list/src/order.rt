@@ -1,42 +1,36 @@
 //! The order of reels.
 use crate::reel::ListedReel;
 
-/// The sort key of a reel: its volume, or after all volumes if it has none.
-#[derive(PartialEq, Eq, PartialOrd, Ord, Drop)]
-struct Place<'a> {
-    has_none: bool,
-    name: &'a str,
-    level: u8,
-    date: u64,
-    volume: u32,
-    path: &'a str,
-}
-
-/// Returns the sort key of this reel.
-fn place_of(reel: &ListedReel) -> Place<'_> {
-    let path = reel.path.as_str();
+/// The first part of the sort key. Reels without a volume come last.
+fn dump_of(reel: &ListedReel) -> (bool, &str, u8, u64) {
     match reel.volume() {
-        Some(volume) => Place {
-            has_none: false,
-            name: volume.label.name(),
-            level: volume.label.level(),
-            date: volume.label.date(),
-            volume: volume.label.volume(),
-            path,
-        },
-        None => Place {
-            has_none: true,
-            name: "",
-            level: 0,
-            date: 0,
-            volume: 0,
-            path,
-        },
+        Some(volume) => {
+            let label = &volume.label;
+            (false, label.name(), label.level(), label.date())
+        }
+        None => (true, "", 0, 0),
     }
 }
 
-/// Sorts reels by the name, level, date and number of their volumes, and then by their paths. Those
-/// without a volume come last.
+/// The sort key.
+fn place_of(reel: &ListedReel) -> ((bool, &str, u8, u64), u32, &str) {
+    let number = reel.volume().map_or(0, |volume| volume.label.volume());
+    (dump_of(reel), number, reel.path.as_str())
+}
+
+/// Sorts reels by the name, level, date and number of their volumes, and then by their paths.
 pub(crate) fn sort(reels: &mut [ListedReel]) {
     reels.sort_unstable_by(|one, other| place_of(one).cmp(&place_of(other)));
+}
+
+/// Returns the reels whose volumes have this name, level and date. `reels` must be sorted.
+pub(crate) fn reels_of<'a>(
+    reels: &'a [ListedReel],
+    name: &str,
+    level: u8,
+    date: u64,
+) -> &'a [ListedReel] {
+    let dump = (false, name, level, date);
+    let from = &reels[reels.partition_point(|reel| dump_of(reel) < dump)..];
+    &from[..from.partition_point(|reel| dump_of(reel) <= dump)]
 }

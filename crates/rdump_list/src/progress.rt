@@ -1,10 +1,9 @@
 //! Shows how far a list of reels is.
 use crate::ListSystem;
-use printable::{LiveLine, LiveText};
+use console::{LiveLine, LiveText};
 use std::fmt::Write as _;
 use std::io::Write;
 
-/// The bytes of one MiB.
 const MIB: u64 = 1024 * 1024;
 
 /// A line on a terminal that shows which reel is read, and how much was read. It is updated at most
@@ -34,7 +33,7 @@ impl<'a, R: ListSystem, W: Write> ListProgress<'a, R, W> {
         self.reels = self.reels.saturating_add(1);
     }
 
-    /// Shows the line if it is time for that, and then counts `bytes` bytes that were read.
+    /// Shows the line if it is due, and then counts the bytes that were read.
     pub(crate) fn add(&mut self, bytes: usize) {
         if let Some(rate) = self.line.due() {
             let (reels, mib) = (self.reels, self.bytes / MIB);

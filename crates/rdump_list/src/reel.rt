@@ -3,29 +3,24 @@ use crate::status::is_passed;
 use crate::undetermined::Undetermined;
 use crate::verdict::is_whole;
 use catalog::SumVerdict;
-use reel_check::{Holding, ReelContents, Volume, VolumeEnd};
+use volume_check::{Holding, ReelContents, Volume, VolumeEnd};
 
-/// The source that a reel was read from.
 #[derive(Clone, Copy)]
 pub(crate) enum Source {
-    /// A record file.
     File,
-    /// A drive. Its bytes are not known, and if it is no volume, its records and marks are not all
-    /// counted.
+    /// The bytes are not known. If the reel is no volume, not all records and marks are counted.
     Drive,
-    /// A drive or a record file, but the contents could not be determined for this reason. They are
-    /// what was read until then.
+    /// A drive or a record file, but the contents could not be determined. They are what was read
+    /// until then.
     Undetermined(Undetermined),
 }
 
-/// A listed reel. It holds at most one label.
+/// Holds at most one label.
 #[derive(Drop)]
 pub(crate) struct ListedReel {
     /// The path of its file, or the device name of its drive.
     pub(crate) path: String,
-    /// The contents that were read.
     pub(crate) contents: ReelContents,
-    /// The source that it was read from.
     pub(crate) source: Source,
     /// What the comparison with a catalog found, if the reel is whole and there is a catalog.
     pub(crate) sum: Option<SumVerdict>,
@@ -54,7 +49,8 @@ impl ListedReel {
     }
 
     /// Returns the volume on it, if exactly one mark follows its blocks. Bytes that make no entry
-    /// may follow too. Such a volume can be read back whole.
+    /// may follow too. Such a volume can be read back whole. Returns None if the contents are
+    /// undetermined.
     pub(crate) fn ended_volume(&self) -> Option<&Volume> {
         match (self.source, self.volume()) {
             (Source::File | Source::Drive, Some(volume)) if volume.end == VolumeEnd::OneMark => {

@@ -1,18 +1,16 @@
 //! The paths of record files.
 use crate::ListSystem;
-use crate::fault::{print_fault, report};
+use crate::fault::{ListFault, at, go_on};
 use crate::folder::names_in;
 use std::alloc::AllocError;
 use std::fs;
 use std::io::{self, ErrorKind};
 
-/// The message for a path that is neither a plain file nor a folder.
 const NO_FILE: &str = "it is no plain file and no folder";
 
 /// The path of a record file.
 #[derive(Drop)]
 pub struct ReelPath {
-    /// The path.
     pub path: String,
     /// Whether it is a name in a folder that was listed: what has the name may be no plain file.
     pub is_listed: bool,
@@ -52,21 +50,11 @@ impl<'a, R: ListSystem> ReelPaths<'a, R> {
     }
 
     /// Adds the record file at this path, or the names in the folder at this path, in the order of
-    /// their bytes. It skips names that begin with a dot. If there is neither, it prints why and
-    /// continues. Fails if an allocation fails.
+    /// their bytes. It skips names that begin with a dot. If there is neither, or a name is not
+    /// UTF-8, it prints why and goes on. Fails if an allocation fails.
     pub fn add(&mut self, path: &str) -> Result<(), AllocError> {
-        match fs::metadata(self.rt, path) {
-            Ok(found) if found.is_dir() => self.add_folder(path),
-            Ok(found) if found.is_file() => {
-                let path = String::from_str(self.rt.alloc(), path)?;
-                self.push(path, false)
-            }
-            Ok(_) => {
-                self.print_fault(path, NO_FILE);
-                Ok(())
-            }
-            Err(error) => self.report(path, error),
-        }
+        let added = self.add_found(path);
+        self.go_on(added)
     }
 
     /// Returns the paths, and whether all that was named could be found.
@@ -74,51 +62,42 @@ impl<'a, R: ListSystem> ReelPaths<'a, R> {
         (self.paths, !self.has_failed)
     }
 
-    /// Adds the names in a folder.
-    fn add_folder(&mut self, folder: &str) -> Result<(), AllocError> {
-        match names_in(self.rt, folder) {
-            Ok(names) => self.add_names(folder, &names),
-            Err(error) => self.report(folder, error),
+    fn add_found<'b>(&mut self, path: &'b str) -> Result<(), ListFault<'b>> {
+        let (rt, alloc) = (self.rt, self.rt.alloc());
+        let found = at(path, fs::metadata(rt, path))?;
+        if found.is_file() {
+            self.push(String::from_str(alloc, path)?, false)?;
+            return Ok(());
         }
-    }
-
-    /// Adds these names in a folder.
-    fn add_names(&mut self, folder: &str, names: &[Vec<u8>]) -> Result<(), AllocError> {
-        let between = if folder.ends_with("/") { "" } else { "/" };
-        for name in names {
-            match str::from_utf8(name) {
-                Ok(name) => {
-                    let path = format!(in self.rt.alloc(); "{folder}{between}{name}")?;
-                    self.push(path, true)?;
-                }
-                Err(_) => self.print_fault(folder, "a name in it is not UTF-8"),
+        if !found.is_dir() {
+            return Err(ListFault::Unfit(path, NO_FILE));
+        }
+        let between = if path.ends_with("/") { "" } else { "/" };
+        for name in at(path, names_in(rt, path))? {
+            match str::from_utf8(&name) {
+                Ok(name) => self.push(format!(in alloc; "{path}{between}{name}")?, true)?,
+                Err(_) => self.go_on(Err(ListFault::Unfit(path, "a name in it is not UTF-8")))?,
             }
         }
         Ok(())
     }
 
-    /// Adds a path.
     fn push(&mut self, path: String, is_listed: bool) -> Result<(), AllocError> {
         self.paths.push(ReelPath { path, is_listed })?;
         Ok(())
     }
 
-    /// Prints why a path cannot be read, and remembers the failure.
-    fn print_fault(&mut self, path: &str, why: &str) {
-        self.has_failed = true;
-        print_fault(self.rt, path, why);
-    }
-
-    /// Prints the system's reason why a path cannot be read, and remembers the failure. Fails if
-    /// the reason is out of memory.
-    fn report(&mut self, path: &str, error: io::Error) -> Result<(), AllocError> {
-        self.has_failed = true;
-        report(self.rt, path, error)
+    /// Prints a fault, remembers it, and goes on.
+    fn go_on(&mut self, added: Result<(), ListFault<'_>>) -> Result<(), AllocError> {
+        if go_on(self.rt, added)?.is_none() {
+            self.has_failed = true;
+        }
+        Ok(())
     }
 }
 
-/// Opens the plain file at this path for reading. Fails if the system does, or if it is no plain
-/// file.
+/// Opens the plain file at this path for reading. Fails if the system does, and with `InvalidInput`
+/// if it is no plain file.
 pub fn open_plain<R: ListSystem>(rt: &R, path: &str) -> io::Result<fs::File> {
     let file = fs::File::open(rt, path)?;
     if !file.metadata()?.is_file() {

@@ -7,13 +7,11 @@ use std::io::Write;
 use std::marker::Model;
 use tape::{Medium, MediumFailed};
 
-/// A medium whose reads are shown on a terminal, if there is one. It has the contracts of the
-/// medium, and contracts see only the medium.
+/// A medium whose reads are shown on a terminal, if there is one. Contracts see only the medium.
 #[derive(Drop)]
 pub struct ShownMedium<'a, M, R: ListSystem, W: Write + Drop> {
-    /// The medium that is read.
     pub medium: M,
-    /// What shows the reads.
+    /// The line that shows the reads, if there is one.
     pub progress: Option<ListProgress<'a, R, W>>,
 }
 

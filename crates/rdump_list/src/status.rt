@@ -4,13 +4,10 @@ ghost use Rattle.rdump_list.specs.Status as spec;
 ghost use Rattle.rdump_list.specs.Status.{list_status};
 
 use catalog::SumVerdict;
-use exit_status::ExitStatus;
+use console::ExitStatus;
 
-/// Returns the exit status of `rdump ls`. It depends on whether everything was read and printed,
-/// and on whether everything is whole. A failure to read or print takes precedence.
+/// A failure to read or print takes precedence over what is not whole.
 pub(crate) fn status_of(is_done: bool, is_whole: bool) -> ExitStatus
-    // If something could not be read or printed, the status is `StartupError`. Otherwise the status
-    // is `Success` if the argument `is_whole` is true, and `Abnormal` if the argument is false.
     ensures { result ≡ list_status is_done is_whole }
 {
     match (is_done, is_whole) {
@@ -20,10 +17,8 @@ pub(crate) fn status_of(is_done: bool, is_whole: bool) -> ExitStatus
     }
 }
 
-/// Whether a reel does not fail the list by the comparison of its sum. A reel of a dump that was
-/// begun anew, or of a volume that was written again, does not.
+/// Only a sum that differs or is not known fails the list.
 pub(crate) fn is_passed(verdict: Option<SumVerdict>) -> bool
-    // If the sum differs, or is not known, the status is not `Success`.
     ensures { result ≡ spec.is_passed verdict }
 {
     match verdict {

@@ -3,8 +3,8 @@ use std::fs::File;
 use std::net::Net;
 use std::rt::{Clock, Files};
 
-/// The parts of the runtime that `rdump ls` uses: memory, the streams that it prints to, files,
-/// sockets, and the clock, which times the wait before a connection that follows a failed one.
+/// The parts of the runtime that `rdump ls` uses. The clock times the line of progress, and the
+/// wait before a connection that follows a failed one.
 pub trait ListSystem: AllocGlobal + Clock + Eprint + Files<File = File> + Net + Print {}
 
 impl<R: AllocGlobal + Clock + Eprint + Files<File = File> + Net + Print> ListSystem for R {}

@@ -18,7 +18,6 @@ pub(crate) enum Undetermined {
 }
 
 impl Undetermined {
-    /// Appends the reason, in words. Fails if an allocation fails.
     pub(crate) fn push(self, text: &mut Vec<u8>) -> Result<(), AllocError> {
         text.extend_from_slice(b"cannot be told: ")?;
         match self {
@@ -35,7 +34,6 @@ impl Undetermined {
     }
 }
 
-/// Returns the name of a request for the line.
 fn request_name(request: TapeRequest) -> &'static [u8] {
     match request {
         TapeRequest::Rewind => b"the rewind",

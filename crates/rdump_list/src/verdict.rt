@@ -1,20 +1,17 @@
 //! The verdict on a reel, in words.
 ghost use Rattle.std.specs.Prelude.{◌≡◌, ◌++◌, ◌↔◌, IsTrue, OnOk, codes, decimal};
-ghost use Rattle.reel_check.specs.declared.holding.VolumeEnd.TheVariants.{OneMark};
+ghost use Rattle.volume_check.specs.declared.holding.VolumeEnd.TheVariants.{OneMark};
 ghost use Rattle.rdump_list.specs.Verdict as spec;
 ghost use Rattle.rdump_list.specs.Verdict.{IsWhole, volume_verdict, holding_verdict, is_end, tail_verdict, verdict_of};
 
 use itoa::Buffer;
-use reel_check::{Holding, ReelContents, Volume, VolumeEnd};
 use std::alloc::AllocError;
+use volume_check::{Holding, ReelContents, Volume, VolumeEnd};
 
 /// Returns whether a reel is whole: a volume with one mark after its blocks, and no byte after the
 /// mark. The verdict on these reels, and on no others, is `whole`.
 pub fn is_whole(contents: &ReelContents) -> bool
-    // Returns true if and only if the reel is a volume with one mark after its blocks, and no byte
-    // follows the mark.
     ensures holds { IsTrue result ↔ IsWhole contents.now }
-    // The verdict that `push_verdict` appends is `whole` if and only if `is_whole` returns true.
     ensures said { IsTrue result ↔ (verdict_of contents.now ≡ codes "whole") }
 {
     contents.tail == 0 && has_one_mark(&contents.holding)
@@ -29,9 +26,6 @@ pub fn is_whole(contents: &ReelContents) -> bool
 ///
 /// Fails if an allocation fails.
 pub fn push_verdict(text: &mut Vec<u8>, contents: &ReelContents) -> Result<(), AllocError>
-    // Appends the verdict on a reel: `whole`, `empty`, `no mark: N whole blocks`, `more after the
-    // mark` or `not a volume of rdump`. If N bytes follow the last readable entry, `tail of N
-    // bytes` replaces the verdicts `whole` and `empty`, and follows any other verdict.
     ensures { OnOk result (text.new.items ≡ text.old.items ++ verdict_of contents.now) }
 {
     if contents.tail == 0 {
@@ -45,7 +39,6 @@ pub fn push_verdict(text: &mut Vec<u8>, contents: &ReelContents) -> Result<(), A
     push_tail(text, contents.tail)
 }
 
-/// Whether the entries are a volume with one mark after its blocks, and nothing after it.
 fn has_one_mark(holding: &Holding) -> bool
     ensures { result ≡ spec.is_one_mark holding.now }
 {
@@ -55,7 +48,6 @@ fn has_one_mark(holding: &Holding) -> bool
     }
 }
 
-/// Whether a tail replaces the verdict on these entries, which is `whole` or `empty`.
 fn tail_replaces(holding: &Holding) -> bool
     ensures { result ≡ spec.tail_replaces holding.now }
 {
@@ -66,7 +58,6 @@ fn tail_replaces(holding: &Holding) -> bool
     }
 }
 
-/// Whether exactly one mark and nothing else follows the blocks of a volume.
 pub(crate) fn is_one_mark(end: VolumeEnd) -> bool
     ensures value { result ≡ is_end end }
     ensures one { IsTrue result ↔ (end ≡ OneMark) }
@@ -78,7 +69,6 @@ pub(crate) fn is_one_mark(end: VolumeEnd) -> bool
     }
 }
 
-/// Appends the verdict on the entries.
 fn push_holding(text: &mut Vec<u8>, holding: &Holding) -> Result<(), AllocError>
     ensures { OnOk result (text.new.items ≡ text.old.items ++ holding_verdict holding.now) }
 {
@@ -89,7 +79,6 @@ fn push_holding(text: &mut Vec<u8>, holding: &Holding) -> Result<(), AllocError>
     }
 }
 
-/// Appends the verdict on a volume.
 fn push_end(text: &mut Vec<u8>, volume: &Volume) -> Result<(), AllocError>
     ensures { OnOk result (text.new.items ≡ text.old.items ++ volume_verdict volume.now.end volume.now.blocks) }
 {
@@ -100,14 +89,12 @@ fn push_end(text: &mut Vec<u8>, volume: &Volume) -> Result<(), AllocError>
     }
 }
 
-/// Appends the number of bytes after the entries.
 fn push_tail(text: &mut Vec<u8>, bytes: u64) -> Result<(), AllocError>
     ensures { OnOk result (text.new.items ≡ text.old.items ++ tail_verdict bytes) }
 {
     push_count(text, b"tail of ", bytes, b" bytes")
 }
 
-/// Appends a number between two texts.
 pub(crate) fn push_count(
     text: &mut Vec<u8>,
     before: &[u8],

@@ -1,12 +1,12 @@
 -- A dump with an observer, put together.
-use Rattle.rdump_net.proofs.Words.{◌≡◌, ◌⊎◌, inl, inr, ℕ, List, [], ◌∷◌, ◌++◌, drop, length, Bool, true, Option, Some, None, refl, sym, ap, subst, ◌∙◌, append-nil, append_assoc, ExitStatus, Counting, IsPrinted, VolumeCount, Standing, ClientHeld, HasFed, Passed, FromAny, FromThis, Talks, TalksOver, DumpEvent, Counted, Kept, AreTold, LogsOn, counts_of, kept_of, told_of, DumpLines, IsConclusion, IsDumped, IsFinish, IsPrefixOf, IsRound, conclusion_status, Conclusion, HasKept, IsDumpKept, IsKept, IsKeptConclusion, IsKeptUp, IsUnkept, KeptDump, KeptEnds, KeptKind, HasKeptTo, arith, asked, counted, failed, none, kept_ends, plain_checkpoint, unkept_line, alone, both}
+use Rattle.rdump_net.proofs.Words.{◌≡◌, ◌⊎◌, inl, inr, ℕ, List, [], ◌∷◌, ◌++◌, drop, length, Bool, true, Option, Some, None, refl, sym, ap, subst, ◌∙◌, append-nil, append_assoc, ExitStatus, Counting, IsPrinted, VolumeCount, Standing, ClientHeld, HasFed, Passed, FromAny, FromThis, Talks, TalksOver, DumpEvent, Counted, Kept, AreTold, LogsOn, counts_of, entered_of, kept_of, told_of, DumpLines, IsConclusion, IsDumped, IsFinish, IsPrefixOf, IsRound, conclusion_status, Conclusion, HasKept, IsDumpKept, IsKept, IsKeptConclusion, IsKeptUp, IsUnkept, KeptDump, KeptEnds, KeptKind, HasKeptTo, arith, asked, counted, failed, none, kept_ends, plain_checkpoint, unkept_line, alone, both}
 use Rattle.dump_run.specs.Checkpoint.{PlainCheckpoint}
 use Rattle.dump_run.specs.Run.{PlainRun}
 use Rattle.rdump_net.specs.Talk.Talks.{none as no_talk}
 use Rattle.rdump_net.specs.declared.conclusion.Conclusion.TheVariants as ends
 use Rattle.rdump_net.specs.Keeping.KeptDump.{none as not_begun, then_talk, then_count, then_print, then_last, then_keep}
 use Rattle.rdump_net.proofs.Growing.{HasGone, grown_both, grown_none, grown_same, talk_goes}
-use Rattle.rdump_net.proofs.Observed.{counts_both, kept_both, kept_still_told, told_more, told_still_kept, with_more}
+use Rattle.rdump_net.proofs.Observed.{both_logged, counts_both, kept_both, kept_still_told, none_entered_kept, none_entered_told, none_logged, told_more, told_still_kept, with_more}
 use Rattle.rdump_net.proofs.Talking.{joined, talks_weaker}
 use Rattle.rdump_net.proofs.Printed.{lines_both, nothing_printed, printed_both}
 
@@ -58,6 +58,7 @@ pub record KeptSoFar {B P W O : Type 0} (k : KeptKind B P W O) (old new : KeptEn
   pub on : (fed : List ℕ) → HasFed old.client fed → IsOn k old new text events kept fed
   pub logs : LogsOn k.logs old.observer new.observer events
   pub counted : AreTold old.client.at.counts events new.client.at.counts
+  pub unentered : entered_of events ≡ []
   pub lines : DumpLines old.client.at.counts new.client.at.counts text
   pub printed : IsPrinted k.contents text old.out new.out true
 
@@ -81,8 +82,9 @@ module _ {B P W O : Type 0} {k : KeptKind B P W O} where
       has = record { passed = []; later = fed; dumped = not_begun; keeps = h; logs = alone k.tells e.peer };
       last = λ none. absurd (cc);
     };
-    logs = alone k.logs e.observer;
+    logs = none_logged k.logs e.observer;
     counted = sym (append-nil e.client.at.counts);
+    unentered = refl;
     lines = none;
     printed = nothing_printed k.contents e.out;
   }
@@ -95,7 +97,7 @@ module _ {B P W O : Type 0} {k : KeptKind B P W O} where
   module _ {old new : KeptEnds B P W O} {kept : Option ℕ} (s : KeptSoFar k old new kept) where
     -- nothing more is logged
     logged_still : {observer : O} → LogsOn k.logs new.observer observer [] → LogsOn k.logs old.observer observer s.events
-    logged_still {observer} more = subst (LogsOn k.logs old.observer observer) (append-nil s.events) (both k.logs s.logs more)
+    logged_still {observer} more = subst (LogsOn k.logs old.observer observer) (append-nil s.events) (both_logged k.logs s.logs more)
 
     -- the client's checkpoint is kept
     pub kept_up : {after : Option ℕ} {observer : O} → IsKeptUp k.logs (plain_checkpoint new.client.at.run new.client.at.counts) kept true after new.observer observer
@@ -107,6 +109,7 @@ module _ {B P W O : Type 0} {k : KeptKind B P W O} where
       on = λ fed h. let one = s.on fed h in record { has = has_now one.has one.has.dumped; last = λ up. one.last same };
       logs = logged_still more;
       counted = s.counted;
+      unentered = s.unentered;
       lines = s.lines;
       printed = s.printed;
     }
@@ -117,8 +120,9 @@ module _ {B P W O : Type 0} {k : KeptKind B P W O} where
           events = s.events ++ Kept own ∷ [];
           same = s.same;
           on = λ fed h. let one = s.on fed h in record { has = has_now one.has (then_keep one.has.dumped s.lines); last = λ up. (kept_of s.events, kept_both s.events (Kept own ∷ [])) };
-          logs = both k.logs s.logs more;
+          logs = both_logged k.logs s.logs more;
           counted = told_still_kept old.client.at.counts s.events own new.client.at.counts s.counted;
+          unentered = none_entered_kept s.events own s.unentered;
           lines = s.lines;
           printed = s.printed;
         }
@@ -127,9 +131,9 @@ module _ {B P W O : Type 0} {k : KeptKind B P W O} where
     ends_so : {c : ClientHeld B} {p : P} {out : Counting W} {observer : O} {end : Conclusion} (whole : Bool) (rest last : List ℕ) (events : List DumpEvent)
         → ((payload : List (List ℕ)) → k.holds new.client.source payload → k.holds c.source payload)
         → ((fed : List ℕ) → HasFed old.client fed → HasKeptTo k old (kept_ends c p out observer) end s.text (rest ++ last) events fed)
-        → LogsOn k.logs old.observer observer events → AreTold old.client.at.counts events c.at.counts → DumpLines new.client.at.counts c.at.counts rest
+        → LogsOn k.logs old.observer observer events → AreTold old.client.at.counts events c.at.counts → entered_of events ≡ [] → DumpLines new.client.at.counts c.at.counts rest
         → IsPrinted k.contents (rest ++ last) new.out out whole → IsKeptConclusion whole c.at last end → IsDumpKept k old (kept_ends c p out observer) end
-    ends_so {c = c} whole rest last events same kept logs all lines told is = record {
+    ends_so {c = c} whole rest last events same kept logs all none_entered lines told is = record {
       text = s.text;
       rest = rest;
       last = last;
@@ -140,6 +144,7 @@ module _ {B P W O : Type 0} {k : KeptKind B P W O} where
       kept = kept;
       logs = logs;
       counted = all;
+      unentered = none_entered;
       printed = s.printed;
       told = told;
       lines = lines_both old.client.at.counts new.client.at.counts s.text s.lines c.at.counts rest lines;
@@ -188,8 +193,9 @@ module _ {B P W O : Type 0} {k : KeptKind B P W O} where
             events = events_of c;
             same = λ payload h. t.same payload (s.same payload h);
             on = λ fed h. let one = talked_on grows fed h in record { has = has_now one.has (then_print r.0 one.has.dumped (all_told c grows)); last = one.last };
-            logs = both k.logs s.logs logged;
+            logs = both_logged k.logs s.logs logged;
             counted = all_told c grows;
+            unentered = none_entered_told s.events (more_of c) s.unentered;
             lines = lines_both old.client.at.counts new.client.at.counts s.text s.lines c.at.counts r.0 r.1;
             printed = printed_both k.contents s.text r.0 old.out new.out out true s.printed r.2;
           }
@@ -203,7 +209,7 @@ module _ {B P W O : Type 0} {k : KeptKind B P W O} where
           (λ fed h.
           let one = talked_on grows fed h in
           record { has = has_now one.has (then_last (r.text ++ r.last) one.has.dumped (all_told c grows)); last = λ complete. inr (one.last (rw (still complete) e)) })
-          (both k.logs s.logs logged) (all_told c grows) r.lines r.printed (kept_conclusion r.whole c.at r.last end r.ends)
+          (both_logged k.logs s.logs logged) (all_told c grows) (none_entered_told s.events (more_of c) s.unentered) r.lines r.printed (kept_conclusion r.whole c.at r.last end r.ends)
 
     -- the dump does nothing more than print its last line
     pub unkept_ends : {out : Counting W} {observer : O} {end : Conclusion} → LogsOn k.logs new.observer observer [] → IsUnkept k.contents new.out out end
@@ -212,7 +218,7 @@ module _ {B P W O : Type 0} {k : KeptKind B P W O} where
         (λ fed h.
         let one = s.on fed h in
         record { has = has_now one.has (then_last unkept_line one.has.dumped s.counted); last = λ complete. (let clash = sym u.0 ∙ complete in absurd cc) })
-        (logged_still more) s.counted none u.1.1 (rw u.0 refl)
+        (logged_still more) s.counted s.unentered none u.1.1 (rw u.0 refl)
 
     pub finish_ends : {out : Counting W} {end : Conclusion} → IsFinish k.contents new.client.at new.out out end → (new.client.at ≡ old.client.at) ⊎ (kept ≡ Some (length new.client.at.counts))
         → IsDumpKept k old (kept_ends new.client new.peer out new.observer) end
@@ -220,7 +226,7 @@ module _ {B P W O : Type 0} {k : KeptKind B P W O} where
         (λ fed h.
         let one = s.on fed h in
         record { has = has_now one.has (then_last f.0 one.has.dumped s.counted); last = λ complete. elim up [ inl same ↦ inl same | inr kept ↦ inr (one.last kept) ] })
-        s.logs s.counted none f.2 (kept_conclusion f.1 new.client.at f.0 end f.3)
+        s.logs s.counted s.unentered none f.2 (kept_conclusion f.1 new.client.at f.0 end f.3)
 
   -- the lines are those of a dump without an observer, if the observer cannot stop it
   pub dump_printed : {old new : KeptEnds B P W O} {end : Conclusion} {status : ExitStatus} → status ≡ conclusion_status end → ((end ≡ ends.Unkept) ⊎ (end ≡ ends.Left) → ⊥)

@@ -1,5 +1,5 @@
 -- What an observer logs, put together.
-use Rattle.rdump_net.proofs.Words.{◌≡◌, ℕ, List, [], ◌∷◌, ◌++◌, length, drop, map, refl, sym, ap, subst, ◌∙◌, append-nil, append_assoc, drop-append_seam, arith, VolumeCount, DumpEvent, Counted, Kept, Completed, Entered, Forgotten, AreTold, LogsOn, Observes, counts_of, kept_of, told_of, IsPrefixOf, alone, both}
+use Rattle.rdump_net.proofs.Words.{◌≡◌, ℕ, List, [], ◌∷◌, ◌++◌, length, drop, map, refl, sym, ap, subst, ◌∙◌, append-nil, append_assoc, drop-append_seam, arith, VolumeCount, DumpEvent, Counted, Kept, Completed, Entered, Forgotten, AreTold, LogsOn, Observes, counts_of, entered_of, kept_of, told_of, IsPrefixOf, alone, both}
 use Rattle.dump_run.specs.Checkpoint.{PlainCheckpoint}
 
 pub counts_both : (one two : List DumpEvent) → counts_of (one ++ two) ≡ counts_of one ++ counts_of two
@@ -7,7 +7,7 @@ counts_both [] two = refl
 counts_both (Counted count ∷ one) two = ap (λ l. count ∷ l) (counts_both one two)
 counts_both (Kept checkpoint ∷ one) two = counts_both one two
 counts_both (Completed b ∷ one) two = counts_both one two
-counts_both (Entered b ∷ one) two = counts_both one two
+counts_both (Entered run b ∷ one) two = counts_both one two
 counts_both (Forgotten b ∷ one) two = counts_both one two
 
 pub kept_both : (one two : List DumpEvent) → kept_of (one ++ two) ≡ kept_of one ++ kept_of two
@@ -15,8 +15,28 @@ kept_both [] two = refl
 kept_both (Counted count ∷ one) two = kept_both one two
 kept_both (Kept checkpoint ∷ one) two = ap (λ l. checkpoint ∷ l) (kept_both one two)
 kept_both (Completed b ∷ one) two = kept_both one two
-kept_both (Entered b ∷ one) two = kept_both one two
+kept_both (Entered run b ∷ one) two = kept_both one two
 kept_both (Forgotten b ∷ one) two = kept_both one two
+
+pub entered_both : (one two : List DumpEvent) → entered_of (one ++ two) ≡ entered_of one ++ entered_of two
+entered_both [] two = refl
+entered_both (Counted count ∷ one) two = entered_both one two
+entered_both (Kept checkpoint ∷ one) two = entered_both one two
+entered_both (Completed b ∷ one) two = entered_both one two
+entered_both (Entered run b ∷ one) two = ap (λ l. (run, b) ∷ l) (entered_both one two)
+entered_both (Forgotten b ∷ one) two = entered_both one two
+
+entered_told : (counts : List VolumeCount) → entered_of (told_of counts) ≡ []
+entered_told [] = refl
+entered_told (count ∷ counts) = entered_told counts
+
+-- nothing is entered while counts are told
+pub none_entered_told : (events : List DumpEvent) (counts : List VolumeCount) → entered_of events ≡ [] → entered_of (events ++ told_of counts) ≡ []
+none_entered_told events counts none = entered_both events (told_of counts) ∙ ap (λ l. l ++ entered_of (told_of counts)) none ∙ entered_told counts
+
+-- nothing is entered while a checkpoint is kept
+pub none_entered_kept : (events : List DumpEvent) (checkpoint : PlainCheckpoint) → entered_of events ≡ [] → entered_of (events ++ Kept checkpoint ∷ []) ≡ []
+none_entered_kept events checkpoint none = entered_both events (Kept checkpoint ∷ []) ∙ ap (λ l. l ++ []) none
 
 counts_told : (counts : List VolumeCount) → counts_of (told_of counts) ≡ counts
 counts_told [] = refl
@@ -45,10 +65,18 @@ told_more first events counts more told =
 pub with_more : (old new : List VolumeCount) → IsPrefixOf old new → new ≡ old ++ drop (length old) new
 with_more old new (more, is) = is ∙ ap (λ l. old ++ l) (sym (ap (drop (length old)) is ∙ drop-append_seam old more))
 
-module _ {O : Type 0} {logs : O → List DumpEvent → Type 0} {can_stop : O → Type 0} where
+-- what an observer logs: nothing, and one list of events after another
+module _ {O : Type 0} (logs : O → O → List DumpEvent → Type 0) where
+  pub none_logged : (o : O) → LogsOn logs o o []
+  none_logged o = λ first. alone (logs first) o
+
+  pub both_logged : {o p q : O} {one two : List DumpEvent} → LogsOn logs o p one → LogsOn logs p q two → LogsOn logs o q (one ++ two)
+  both_logged h k = λ first. both (logs first) (h first) (k first)
+
+module _ {O : Type 0} {logs : O → O → List DumpEvent → Type 0} {can_stop : O → Type 0} where
   -- nothing happens
   pub observes_none : {o : O} → Observes logs can_stop o o []
-  observes_none {o} = record { logged = alone logs o; quiet = λ h. h }
+  observes_none {o} = record { logged = none_logged logs o; quiet = λ h. h }
 
   -- one call of the observer
   pub observes_call : {o p : O} {events : List DumpEvent} → LogsOn logs o p events → (can_stop p → can_stop o) → Observes logs can_stop o p events
@@ -56,7 +84,7 @@ module _ {O : Type 0} {logs : O → List DumpEvent → Type 0} {can_stop : O →
 
   -- events, and then more
   pub observes_both : {o p q : O} {one two : List DumpEvent} → Observes logs can_stop o p one → Observes logs can_stop p q two → Observes logs can_stop o q (one ++ two)
-  observes_both h k = record { logged = both logs h.logged k.logged; quiet = λ stop. h.quiet (k.quiet stop) }
+  observes_both h k = record { logged = both_logged logs h.logged k.logged; quiet = λ stop. h.quiet (k.quiet stop) }
 
   -- events, and then a call that logs nothing
   pub observes_then : {o p q : O} {one : List DumpEvent} → Observes logs can_stop o p one → Observes logs can_stop p q [] → Observes logs can_stop o q one

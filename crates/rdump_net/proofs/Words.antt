@@ -10,9 +10,9 @@ pub use Rattle.dump_client.specs.declared.fault.StartFault.{StartFault}
 pub use Rattle.dump_client.specs.declared.stage.Answer.{Answer}
 pub use Rattle.dump_client.specs.declared.stage.Progress.{Progress}
 pub use Rattle.dump_client.specs.declared.stage.Stage.{Stage}
-pub use Rattle.exit_status.specs.declared.status.ExitStatus.{ExitStatus}
+pub use Rattle.console.specs.declared.status.ExitStatus.{ExitStatus}
 pub use Rattle.remote_tape.proofs.Basics.{alone, both, is_fault}
-pub use Rattle.rdump_net.specs.Observing.{AreTold, DumpEvent, HasTold, LogsOn, Observes, counts_of, kept_of, told_of}
+pub use Rattle.rdump_net.specs.Observing.{AreTold, DumpEvent, HasTold, LogsOn, Observes, counts_of, entered_of, kept_of, told_of}
 pub use Rattle.rdump_net.specs.Observing.DumpEvent.{Completed, Counted, Entered, Forgotten, Kept}
 pub use Rattle.refusals.specs.declared.request.TapeRequest.{TapeRequest}
 pub use Rattle.remote_tape.specs.Call.{IsCalled, IsPeerCall, plain_number, plain_result, wanted_by}

@@ -12,7 +12,7 @@ use Rattle.dump_client.specs.Client.{ClientHeld, HasFed}
 use Rattle.remote_tape.specs.Peer.{Logs}
 use Rattle.rdump_net.specs.Talk.{Talks}
 use Rattle.rdump_net.specs.Lines.{DumpLines, IsConclusion, IsPrefixOf}
-use Rattle.rdump_net.specs.Observing.{AreTold, DumpEvent, LogsOn, counts_of, kept_of}
+use Rattle.rdump_net.specs.Observing.{AreTold, DumpEvent, LogsOn, counts_of, entered_of, kept_of}
 use Rattle.rdump_net.specs.Observing.DumpEvent.{Counted, Kept}
 use Rattle.rdump_net.specs.declared.conclusion.Conclusion.{Conclusion}
 use Rattle.rdump_net.specs.declared.conclusion.Conclusion.TheVariants.{Complete, Unkept}
@@ -34,7 +34,9 @@ IsKept events at = (before : List PlainCheckpoint) × (kept_of events ≡ before
 -- - The observer is told of each counted volume once, in order.
 -- - Something is printed only after the observer was told of all volumes that were counted since the
 --   dump began.
--- - A checkpoint is kept only after the lines of all volumes counted in it are printed whole.
+-- - A checkpoint is kept only after the lines of all volumes counted in it since the dump began are
+--   printed whole. The same one may be kept twice.
+-- - The dump may have used another order with the same logs.
 pub data KeptDump (told : List (List ℕ) → Type 0) (start : Standing) (first : List ℕ)
     : List Passed → List ℕ → List ℕ → List DumpEvent → Standing → List ℕ → Type 0 where
   none : KeptDump told start first [] [] [] [] start first
@@ -71,11 +73,11 @@ pub record KeptKind (B P W O : Type 0) : Type 1 where
   pub holds : B → List (List ℕ) → Type 0
   pub tells : P → List Passed → Type 0
   pub contents : W → Option (List ℕ)
-  pub logs : O → List DumpEvent → Type 0
+  pub logs : O → O → List DumpEvent → Type 0
 
 -- makes a `KeptKind`
 abbrev pub kept_kind : {B P W O : Type 0} → (B → List (List ℕ) → Type 0) → (P → List Passed → Type 0) → (W → Option (List ℕ))
-    → (O → List DumpEvent → Type 0) → KeptKind B P W O
+    → (O → O → List DumpEvent → Type 0) → KeptKind B P W O
 kept_kind holds tells contents logs = record { holds = holds; tells = tells; contents = contents; logs = logs }
 
 -- What a dump did between `old` and `new`: it exchanged `passed` with the peer, printed `text` whole
@@ -108,7 +110,7 @@ pub record HasKeptTo {B P W O : Type 0} (k : KeptKind B P W O) (old new : KeptEn
 
 -- A dump with an observer. All that it printed up to the last kept checkpoint was printed whole.
 -- Then come the remaining lines and the last line. The observer was told of each volume that was
--- counted.
+-- counted, and was not asked to enter anything in dumpdates.
 pub record IsDumpKept {B P W O : Type 0} (k : KeptKind B P W O) (old new : KeptEnds B P W O) (end : Conclusion) : Type 0 where
   pub text : List ℕ
   pub rest : List ℕ
@@ -120,6 +122,7 @@ pub record IsDumpKept {B P W O : Type 0} (k : KeptKind B P W O) (old new : KeptE
   pub kept : (fed : List ℕ) → HasFed old.client fed → HasKeptTo k old new end text (rest ++ last) events fed
   pub logs : LogsOn k.logs old.observer new.observer events
   pub counted : AreTold old.client.at.counts events new.client.at.counts
+  pub unentered : entered_of events ≡ []
   pub printed : IsPrinted k.contents text old.out middle true
   pub told : IsPrinted k.contents (rest ++ last) middle new.out whole
   pub lines : DumpLines old.client.at.counts new.client.at.counts (text ++ rest)
@@ -127,7 +130,7 @@ pub record IsDumpKept {B P W O : Type 0} (k : KeptKind B P W O) (old new : KeptE
 
 -- The result of keeping a checkpoint; `old` and `new` are how many volumes the last one kept counts.
 -- True: the checkpoint was kept, unless the last one counts as many volumes. False: none was kept.
-abbrev pub IsKeptUp : {O : Type 0} → (O → List DumpEvent → Type 0) → PlainCheckpoint → Option ℕ → Bool → Option ℕ → O → O → Type 0
+abbrev pub IsKeptUp : {O : Type 0} → (O → O → List DumpEvent → Type 0) → PlainCheckpoint → Option ℕ → Bool → Option ℕ → O → O → Type 0
 IsKeptUp logs one old true new o o' =
     (new ≡ Some (length one.counts)) × (((old ≡ Some (length one.counts)) × LogsOn logs o o' []) ⊎ LogsOn logs o o' (Kept one ∷ []))
 IsKeptUp logs one old false new o o' = LogsOn logs o o' []

@@ -10,8 +10,8 @@ use Rattle.dump_client.specs.declared.fault.AttemptFault.{AttemptFault}
 use Rattle.dump_client.specs.declared.fault.AttemptFault.TheVariants.{Refused, Botched, ConnectionEnded, ShortWrite, ReelTooSmall, SourceFault, OutOfMemory, CountedReel}
 use Rattle.dump_client.specs.declared.stage.Stage.{Stage}
 use Rattle.dump_client.specs.declared.stage.Stage.TheVariants.{Ready, Asking, Finished}
-use Rattle.exit_status.specs.declared.status.ExitStatus.{ExitStatus}
-use Rattle.exit_status.specs.declared.status.ExitStatus.TheVariants.{Success, Abnormal}
+use Rattle.console.specs.declared.status.ExitStatus.{ExitStatus}
+use Rattle.console.specs.declared.status.ExitStatus.TheVariants.{Success, Abnormal}
 use Rattle.rmt_wire.specs.Print.{IsPrinted}
 use Rattle.rdump_net.specs.declared.conclusion.Conclusion.{Conclusion}
 use Rattle.rdump_net.specs.declared.conclusion.Conclusion.TheVariants.{Complete, Abandoned, Left, PrintFailed}
@@ -66,7 +66,8 @@ IsPrefixOf old new = (more : List VolumeCount) × (new ≡ old ++ more)
 
 -- The lines of a dump that had the counts `first` and now has the other ones. Each volume counted
 -- since `first` has one line, in order. A failed attempt has the lines of its failure, with the
--- number of the next volume. If an attempt may not begin, there is the question alone.
+-- number of the next volume. If an attempt may not begin, there is the question alone. This does
+-- not say after which attempts a failure or a question is printed.
 pub data DumpLines (first : List VolumeCount) : List VolumeCount → List ℕ → Type 0 where
   none : DumpLines first first []
   counted : {counts : List VolumeCount} {text : List ℕ} (more : List VolumeCount)

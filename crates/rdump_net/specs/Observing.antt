@@ -2,25 +2,28 @@
 -- number, its first block and its number of blocks. Public contracts cite it.
 use Rattle.std.specs.Prelude.{◌≡◌, Bool, true, false, List, [], ◌∷◌, ◌++◌, map}
 use Rattle.dump_run.specs.Checkpoint.{PlainCheckpoint}
+use Rattle.dump_run.specs.Run.{PlainRun}
 use Rattle.dump_run.specs.declared.count.VolumeCount.{VolumeCount}
 
--- An event of a dump. The cases:
+-- An event of a dump. No event says that a checkpoint's text or a catalog was stored. The cases:
 --
 -- - `Counted`: the observer was told of this counted volume.
 -- - `Kept`: this checkpoint was kept.
--- - `Completed`: the dump's end was entered in the catalog, and whether that has all of the dump.
--- - `Entered`: the dump was to be entered in dumpdates, and whether that went well.
+-- - `Completed`: the dump's end was to be entered in the catalog, and whether that has all of the
+--   dump.
+-- - `Entered`: the dump of this run was to be entered in dumpdates, and whether that went well.
 -- - `Forgotten`: the checkpoint was to be forgotten, and whether that went well.
 pub data DumpEvent : Type 0 where
   Counted : (count : VolumeCount) → DumpEvent
   Kept : (checkpoint : PlainCheckpoint) → DumpEvent
   Completed : (has_all : Bool) → DumpEvent
-  Entered : (done : Bool) → DumpEvent
+  Entered : (run : PlainRun) (done : Bool) → DumpEvent
   Forgotten : (done : Bool) → DumpEvent
 
--- these events were appended to the observer's log
-abbrev pub LogsOn : {O : Type 0} → (O → List DumpEvent → Type 0) → O → O → List DumpEvent → Type 0
-LogsOn logs old new events = (log : List DumpEvent) → logs old log → logs new (log ++ events)
+-- These events were appended to the observer's log. `logs first now log` says that the observer
+-- `now` has logged `log` since it was `first`.
+abbrev pub LogsOn : {O : Type 0} → (O → O → List DumpEvent → Type 0) → O → O → List DumpEvent → Type 0
+LogsOn {O} logs old new events = (first : O) (log : List DumpEvent) → logs first old log → logs first new (log ++ events)
 
 -- what keeping a checkpoint logs: the checkpoint, if it was kept
 abbrev pub kept_if : PlainCheckpoint → Bool → List DumpEvent
@@ -43,16 +46,22 @@ kept_of [] = []
 kept_of (Kept checkpoint ∷ events) = checkpoint ∷ kept_of events
 kept_of (event ∷ events) = kept_of events
 
+-- the runs that were to be entered in dumpdates, in order, and whether each was
+abbrev pub entered_of : List DumpEvent → List (PlainRun × Bool)
+entered_of [] = []
+entered_of (Entered run done ∷ events) = (run, done) ∷ entered_of events
+entered_of (event ∷ events) = entered_of events
+
 -- The observer was told of the volumes that were counted since the counts were `first`: each
 -- exactly once, in order.
 abbrev pub AreTold : List VolumeCount → List DumpEvent → List VolumeCount → Type 0
 AreTold first events counts = counts ≡ first ++ counts_of events
 
 -- the observer has been told of these volumes
-abbrev pub HasTold : {O : Type 0} → (O → List DumpEvent → Type 0) → O → List VolumeCount → Type 0
+abbrev pub HasTold : {O : Type 0} → (O → O → List DumpEvent → Type 0) → O → List VolumeCount → Type 0
 HasTold {O} logs now counts = (before : O) × LogsOn logs before now (told_of counts)
 
 -- the observer logged these events, and cannot stop the dump if it could not before
-pub record Observes {O : Type 0} (logs : O → List DumpEvent → Type 0) (can_stop : O → Type 0) (old new : O) (events : List DumpEvent) : Type 0 where
+pub record Observes {O : Type 0} (logs : O → O → List DumpEvent → Type 0) (can_stop : O → Type 0) (old new : O) (events : List DumpEvent) : Type 0 where
   pub logged : LogsOn logs old new events
   pub quiet : can_stop new → can_stop old

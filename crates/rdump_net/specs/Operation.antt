@@ -12,8 +12,8 @@ use Rattle.rmt_wire.specs.declared.mtio.TheConstants.{MTWEOF}
 use Rattle.remote_tape.specs.Calls.{is_done, Stops, Extends, Finishes}
 use Rattle.rdump_net.specs.Ends.{StreamEnds, StreamKind}
 use Rattle.remote_tape.specs.Peer.{Logs}
-use Rattle.exit_status.specs.declared.status.ExitStatus.{ExitStatus}
-use Rattle.exit_status.specs.declared.status.ExitStatus.TheVariants.{Success, Abnormal}
+use Rattle.console.specs.declared.status.ExitStatus.{ExitStatus}
+use Rattle.console.specs.declared.status.ExitStatus.TheVariants.{Success, Abnormal}
 use Rattle.rmt_wire.specs.Print.{IsPrinted}
 use Rattle.remote_tape.specs.declared.fault.CallFault.{CallFault}
 use Rattle.remote_tape.specs.declared.peer.Passed.{Passed}

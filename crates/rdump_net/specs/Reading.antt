@@ -7,8 +7,8 @@
 use Rattle.std.specs.Prelude.{◌≡◌, ◌≢◌, ⊤, ◌⊎◌, ◌≤◌, ◌+◌, ◌-◌, ◌^◌, ◌&&◌, ℕ, Bool, true, false, List, [], ◌∷◌, ◌++◌, length, take, position, nat_eq, nat_lt, Option, Some, None, Result, Ok, Err, if◌then◌else◌, Vec}
 use Rattle.std.specs.Global.{Global}
 use Rattle.std.specs.List.{concat}
-use Rattle.exit_status.specs.declared.status.ExitStatus.{ExitStatus}
-use Rattle.exit_status.specs.declared.status.ExitStatus.TheVariants.{Success, Abnormal}
+use Rattle.console.specs.declared.status.ExitStatus.{ExitStatus}
+use Rattle.console.specs.declared.status.ExitStatus.TheVariants.{Success, Abnormal}
 use Rattle.rmt_wire.specs.declared.fcntl.TheConstants.{O_RDONLY}
 use Rattle.rmt_wire.specs.declared.mtio.TheConstants.{MTREW, MTOFFL}
 use Rattle.rmt_wire.specs.declared.limits.TheConstants.{RECORD_LIMIT}
@@ -189,7 +189,8 @@ IsTakenAwayOnlyIfKept kind device after old new result =
 
 -- What reading a volume that stays in the drive does over a peer, and its result: the text of the
 -- label is printed to the output, and the records after it are written to the file. The result is
--- `Stopped` exactly if not all was printed and written.
+-- `Stopped` exactly if not all was printed and written. This does not say that the read stops after
+-- a write that failed.
 pub record IsVolumeCopied {P F W : Type 0} (kind : CopyKind P F W) (device : List ℕ) (old new : CopyEnds P F W)
     (result : Result Unit ReadFault) : Type 0 where
   pub replies : List PlainReply

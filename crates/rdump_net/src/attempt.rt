@@ -10,31 +10,27 @@ ghost use Rattle.rdump_net.specs.declared.attempt.Attempted.TheVariants.{Held, N
 use crate::{DumpObserver, Peer};
 use dump_client::{AttemptFault, Blocks, Client, Progress, StartFault, State};
 
-/// How many bytes are received at once, at most.
 const PIECE: usize = 4096;
 
-/// The value that `Peer::receive` returns at the end of a connection.
+/// What `Peer::receive` returns at the end of a connection.
 const NO_BYTES: usize = 0;
 
-/// The outcome of an attempt.
 #[derive(Clone, Copy)]
 pub(crate) enum Attempted {
     /// The attempt did not fail: it is over and its volume is counted, or its turns ran out and it
     /// is still under way.
     Over,
-    /// The attempt failed. The client now asks whether to retry.
+    /// The client now asks whether to retry.
     Failed(AttemptFault),
-    /// The attempt did not start. The client is unchanged.
+    /// The client could not start, and is unchanged.
     NotStarted,
     /// The attempt may not begin. Nothing has changed.
     Held,
 }
 
-/// Has a client write its next volume over a new connection, if `may` is true, and then closes the
-/// connection.
-///
-/// If an attempt is under way, it continues over the open connection; if none is open, the attempt
-/// ends. `text` is the buffer for requests. If the attempt fails, the observer is told.
+/// Has a client write its next volume over a new connection, if `may` is true. An attempt that is
+/// under way continues over the open connection, or ends if there is none. `text` is the buffer for
+/// requests.
 #[tactic(auto, using(crate::proofs::Talking::nothing_said, crate::proofs::Observed::observes_none, crate::proofs::Growing::grown_none))]
 pub(crate) fn attempt<B: Blocks, P: Peer, O: DumpObserver<B, P>>(
     client: &mut Client<B>,
@@ -46,8 +42,6 @@ pub(crate) fn attempt<B: Blocks, P: Peer, O: DumpObserver<B, P>>(
     ensures talks { TalksOver B.holds (FromThis client.old.at) P.tells client.old client.new peer.old peer.new }
     ensures still { result ≡ NotStarted → (client.new.at ≡ client.old.at) × (client.old.at.stage ≡ stages.Ready) }
     ensures grows { IsPrefixOf client.old.at.counts client.new.at.counts }
-    // If `may` is false, the call changes neither the client nor the peer. No clause says that
-    // `may` is what `DumpObserver::may_begin` returned.
     ensures held { may ≡ false → (client.new ≡ client.old) × (peer.new ≡ peer.old) }
     ensures kept { result ≡ Held → (client.new ≡ client.old) × (may ≡ false) }
     ensures observed { Observes O.logs O.can_stop observer.old observer.new [] }
@@ -69,8 +63,8 @@ pub(crate) fn attempt<B: Blocks, P: Peer, O: DumpObserver<B, P>>(
     }
 }
 
-/// Starts an attempt over a new connection, unless one is under way. If no connection can be made,
-/// that ends the attempt. Fails if the client cannot start; then it is unchanged.
+/// Starts an attempt over a new connection, unless one is under way. Without a connection the
+/// attempt ends.
 #[tactic(auto, using(crate::proofs::Talking::nothing_said))]
 fn begin<B: Blocks, P: Peer>(client: &mut Client<B>, peer: &mut P) -> Result<Progress, StartFault>
     ensures talks { TalksOver B.holds (FromThis client.old.at) P.tells client.old client.new peer.old peer.new }
@@ -87,7 +81,6 @@ fn begin<B: Blocks, P: Peer>(client: &mut Client<B>, peer: &mut P) -> Result<Pro
     Ok(client.ended())
 }
 
-/// Continues an attempt that has begun, unless it ended at once.
 #[tactic(auto, using(crate::proofs::Talking::nothing_said, crate::proofs::Observed::observes_none))]
 fn talk<B: Blocks, P: Peer, O: DumpObserver<B, P>>(
     client: &mut Client<B>,
@@ -105,7 +98,6 @@ fn talk<B: Blocks, P: Peer, O: DumpObserver<B, P>>(
     }
 }
 
-/// Sends requests, each after the reply to the one before, until the attempt ends.
 #[tactic(auto, using(crate::proofs::Talking::nothing_said, crate::proofs::Talking::followed, crate::proofs::Observed::observes_none, crate::proofs::Observed::observes_then))]
 fn converse<B: Blocks, P: Peer, O: DumpObserver<B, P>>(
     client: &mut Client<B>,
@@ -125,7 +117,6 @@ fn converse<B: Blocks, P: Peer, O: DumpObserver<B, P>>(
     Progress::Waiting
 }
 
-/// Sends the next request, if it is time for one, or receives what the peer sends.
 #[tactic(auto, using(crate::proofs::Talking::nothing_said, crate::proofs::Observed::observes_none))]
 fn exchange<B: Blocks, P: Peer, O: DumpObserver<B, P>>(
     client: &mut Client<B>,
@@ -143,8 +134,6 @@ fn exchange<B: Blocks, P: Peer, O: DumpObserver<B, P>>(
     }
 }
 
-/// Builds the next request and sends it. If it was sent whole, the observer is told. Otherwise the
-/// client's attempt ends.
 fn ask<B: Blocks, P: Peer, O: DumpObserver<B, P>>(
     client: &mut Client<B>,
     peer: &mut P,
@@ -158,6 +147,7 @@ fn ask<B: Blocks, P: Peer, O: DumpObserver<B, P>>(
     match client.next_request(text) {
         Ok(true) => {
             if peer.send(text.as_slice()) {
+                client.sent(text.as_slice());
                 observer.sent(client, text.as_slice());
                 return Progress::Waiting;
             }
@@ -168,8 +158,6 @@ fn ask<B: Blocks, P: Peer, O: DumpObserver<B, P>>(
     }
 }
 
-/// Receives bytes from the peer and feeds them to the client. At the end of the connection, the
-/// client's attempt ends. If the attempt is about to overwrite a label, the observer is told.
 fn hear<B: Blocks, P: Peer, O: DumpObserver<B, P>>(
     client: &mut Client<B>,
     peer: &mut P,

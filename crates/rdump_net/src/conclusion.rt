@@ -2,7 +2,7 @@
 ghost use Rattle.std.specs.Prelude.{◌≡◌};
 ghost use Rattle.rdump_net.specs.Lines.{conclusion_status};
 
-use exit_status::ExitStatus;
+use console::ExitStatus;
 
 /// How a dump ended.
 #[derive(Clone, Copy, Debug, PartialEq, Eq)]
@@ -22,7 +22,6 @@ pub enum Conclusion {
 impl Conclusion {
     /// Returns the exit status of `rdump dump`: `Success` if the dump is complete, else `Abnormal`.
     pub fn status(self) -> ExitStatus
-        // Returns `Success` for `Complete`, and `Abnormal` for every other conclusion.
         ensures { result ≡ conclusion_status self }
     {
         match self {

@@ -21,8 +21,6 @@ pub enum ReadFault {
 }
 
 impl From<TapeFault> for ReadFault {
-    // from_gives: A `TapeFault` becomes `ReadFault::Tape`, with that fault.
-
     ghost use Rattle.std.specs.Prelude.{◌≡◌};
     ghost use Rattle.rdump_net.specs.declared.fault.ReadFault.TheVariants.{Tape};
 
@@ -34,8 +32,6 @@ impl From<TapeFault> for ReadFault {
 }
 
 impl From<SinkStopped> for ReadFault {
-    // from_gives: A `SinkStopped` becomes `ReadFault::Stopped`.
-
     ghost use Rattle.std.specs.Prelude.{◌≡◌};
     ghost use Rattle.rdump_net.specs.declared.fault.ReadFault.TheVariants.{Stopped};
 

@@ -1,41 +1,31 @@
 //! Runs a dump over a connection: sends the client's requests to a tape server, and prints lines
 //! for the operator.
 //!
-//! `Peer`, of `remote_tape`, is the far end of a connection; `SocketPeer` reaches it over TCP, or
-//! over a Unix socket.
-//! `dump` makes a client write its volumes to a tape server, asks the operator after a failure, and
-//! prints each counted volume. `dump_to_end` does so for a `DumpObserver`, which is told what
-//! happens, keeps the checkpoint, answers the questions, and does what follows a complete dump.
-//! `Answers` reads answers from a stream, and `Retries` decides whether a dump without an operator
-//! tries again.
+//! `dump` makes a client write its volumes, and asks the operator after a failure. `dump_to_end`
+//! does so with a `DumpObserver`, which keeps a checkpoint. `Retries` decides whether a dump
+//! without an operator tries again.
 //!
-//! `copy_volume` reads a volume back into a `VolumeSink`, and `read_volume` reads one into two
-//! streams. `mt` does one operation, and `look_at_reel` finds out what a reel begins with. Each
-//! uses a connection of its own, and a `RemoteTape` of `remote_tape` for its requests.
-//! `find_protection` decides from that beginning whether a dump may write on the reel.
+//! `copy_volume` and `read_volume` read a volume back. `look_at_reel` finds out what a reel begins
+//! with, and `find_protection` decides whether a dump may write on it. `mt` does one operation.
 //!
 //! # Contracts
 //!
-//! A *peer* is the far end of a connection. The peer's *log* lists what passed over the peer's
-//! connections, in order. The log is *known* if the peer's contract says what the log contains.
-//! Promises about what passes over a connection hold only if the log is known. The log of a
-//! `SocketPeer`, which uses a socket of the system, is not known. So no clause says what passed
-//! through a socket. No clause says which error `SocketPeer::failure` returns, or how long a call
-//! waits.
+//! A *peer* (`Peer` of `remote_tape`) is the far end of a connection. Its *log* lists in order what
+//! passed over its connections. The log is *known* if the peer's contract says what it contains.
+//! Promises about what passes hold only then. The log of a `SocketPeer`, over TCP or a Unix socket,
+//! is not known. No clause says which error a `SocketPeer` returns, or how long it waits.
 //!
-//! A *sink* receives a volume that is read from a reel. The first record of the volume is the
-//! label, and each later record is a *block* with a number. The mark that ends the volume comes
-//! last. When the sink gets the label or a block, the sink either *accepts* the record or stops the
-//! read. After the mark, the sink is asked to *complete* the volume: to confirm that the sink has
-//! kept the volume. Promises about a sink hold only if the sink's contract says what the sink's
-//! calls do.
+//! A *sink* receives a volume that is read: the label, each later record as a *block*, and the mark
+//! that ends the volume. It *accepts* the label or a block, or stops the read. After the mark it is
+//! asked to *complete* the volume: to confirm that it has kept the volume.
 //!
-//! An *observer* attends a dump. The *count* (`VolumeCount`) of a volume contains the volume's
-//! number, the number of the volume's first block, and how many blocks the volume has. The client's
-//! *checkpoint* is the client's run, with the volumes counted so far. The observer's *log* lists the
-//! dump's events in order: the counts that the observer was told of, the checkpoints that it kept,
-//! and what it was asked to do after the dump. Promises about the observer hold only if the
-//! observer's contract says what its log contains.
+//! An *observer* attends a dump. The *count* (`VolumeCount`) of a volume has its number, its first
+//! block, and how many blocks it has. The client's *checkpoint* is its run, with the volumes
+//! counted so far. The observer's *log* lists in order the counts that it was told of, the
+//! checkpoints that it kept, and what it was asked to do after the dump.
+//!
+//! Promises about a sink or an observer hold only if its contract says what its calls do, or what
+//! its log contains.
 #![tactic(auto)]
 
 mod attempt;

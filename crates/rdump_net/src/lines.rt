@@ -12,10 +12,8 @@ use std::io::Write;
 /// The capacity of the buffer for a dump's lines, in bytes.
 pub const LINE_ROOM: usize = 128;
 
-/// The question that the operator is asked, with its line feed.
 pub(crate) const QUESTION: &str = "retry?\n";
 
-/// Prints one line for each of these volumes, in order. Returns whether all were printed.
 pub(crate) fn print_counts<W: Write>(counts: &[VolumeCount], out: &mut Counted<W>) -> bool
     ensures { IsPrinted W.contents (count_lines counts.now) out.old out.new result }
 {
@@ -25,14 +23,12 @@ pub(crate) fn print_counts<W: Write>(counts: &[VolumeCount], out: &mut Counted<W
     }
 }
 
-/// Prints the line of a counted volume. Returns whether it was printed.
 fn print_count<W: Write>(count: VolumeCount, out: &mut Counted<W>) -> bool
     ensures { IsPrinted W.contents (count_line count) out.old out.new result }
 {
     print_text(out, line_of(count).as_bytes())
 }
 
-/// Returns the line of a counted volume, with its line feed: `volume 1: 2 blocks from 0`.
 fn line_of(count: VolumeCount) -> ArrayString<LINE_ROOM>
     ensures { result.bytes ≡ count_line count }
 {
@@ -44,15 +40,12 @@ fn line_of(count: VolumeCount) -> ArrayString<LINE_ROOM>
     line
 }
 
-/// Returns the line that reports a failed attempt, for example `volume 1 failed: Refused 16`, with
-/// a line feed.
+/// Returns the line of a failed attempt of this volume, for example `volume 1 failed: Refused 16`,
+/// with a line feed.
 ///
-/// `volume` is the number of the volume. The fault is given by its name, and after it the error
-/// number of a refusal or the number of a counted volume. The line has at most 73 bytes.
+/// The fault is given by its name, and after it the error number of a refusal or the number of a
+/// counted volume. The line has at most 73 bytes.
 pub fn failure_line(volume: u32, fault: AttemptFault) -> ArrayString<LINE_ROOM>
-    // The line contains the given number of the volume and the name of the given fault. After
-    // `Refused`, the line contains the number of the server's error. After `CountedReel`, the line
-    // contains the number of the counted volume that is on the reel. The line has at most 73 bytes.
     ensures text { result.bytes ≡ line_of_failure volume fault }
     ensures short { length result.bytes ≤ 73 }
 {
@@ -64,7 +57,7 @@ pub fn failure_line(volume: u32, fault: AttemptFault) -> ArrayString<LINE_ROOM>
     line
 }
 
-/// Returns the line of a failed attempt and the question to the operator.
+/// Returns `failure_line` and the question to the operator.
 pub(crate) fn failure_text(volume: u32, fault: AttemptFault) -> ArrayString<LINE_ROOM>
     ensures { result.bytes ≡ failure_lines volume fault }
 {
@@ -73,7 +66,6 @@ pub(crate) fn failure_text(volume: u32, fault: AttemptFault) -> ArrayString<LINE
     lines
 }
 
-/// Returns the line of a complete dump, with its line feed: `dump complete: 2 volumes, 3 blocks`.
 pub(crate) fn complete_text(volumes: usize, blocks: u32) -> ArrayString<LINE_ROOM>
     ensures { result.bytes ≡ complete volumes blocks }
 {
@@ -84,8 +76,7 @@ pub(crate) fn complete_text(volumes: usize, blocks: u32) -> ArrayString<LINE_ROO
     line
 }
 
-/// Appends a text and then a number in decimal. The line must have room for the text and 20 more
-/// bytes.
+/// Appends a text and then a number in decimal.
 pub(crate) fn push_part(line: &mut ArrayString<LINE_ROOM>, text: &str, number: u64)
     requires { length line.old.bytes + length text.now + 20 ≤ LINE_ROOM }
     ensures appended { line.new.bytes ≡ line.old.bytes ++ text.now ++ decimal number }
@@ -96,8 +87,6 @@ pub(crate) fn push_part(line: &mut ArrayString<LINE_ROOM>, text: &str, number: u
     line.push_str(digits.format(number));
 }
 
-/// Appends a fault's name, and after it the error number of a refusal or the number of a counted
-/// volume. The line must have room for 36 bytes.
 fn push_fault(line: &mut ArrayString<LINE_ROOM>, fault: AttemptFault)
     requires { length line.old.bytes + 36 ≤ LINE_ROOM }
     ensures appended { line.new.bytes ≡ line.old.bytes ++ fault_text fault }

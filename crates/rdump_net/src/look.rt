@@ -1,5 +1,4 @@
-//! A look at the beginning of a drive's first reel, over a connection of its own. It writes
-//! nothing.
+//! A look at the beginning of a drive's first reel, which writes nothing.
 ghost use Rattle.std.specs.Prelude.{◌≡◌, ℕ, List, Ok, Err, if◌then◌else◌};
 ghost use Rattle.rmt_wire.specs.Number.{IsLine};
 ghost use Rattle.rmt_wire.specs.declared.errno.TheConstants.{EIO};
@@ -31,37 +30,24 @@ pub enum ReelFront {
 /// Finds out what the first reel of a drive begins with, over a new connection.
 ///
 /// It opens the device for reading, rewinds, and reads 1,024 bytes. If that returns no bytes, it
-/// rewinds and spaces over one mark. If this is refused with `EIO`, there is no mark, and the reel
-/// is empty.
+/// rewinds and spaces over one mark. If this is refused with `EIO`, the reel is empty.
 ///
 /// Then it closes the device and waits for the reply, so that the drive is free. It closes the
-/// device after a refusal too, unless the open was refused: then it sends nothing more. After a
-/// request that gets no reply it sends nothing more either.
+/// device after a refusal too, unless the open was refused. After a request that gets no reply it
+/// sends nothing more.
 ///
 /// The device is one line of at most `LINE_LIMIT` bytes.
 ///
-/// Fails with the first request that was refused, which may be the close. A space that shows that
-/// the reel is empty does not count as refused. Fails with `NoReply` if no connection could be made,
-/// an allocation failed, no reply came, or the bytes that came are no reply.
+/// Fails with the first request that was refused, which may be the close. The space that shows that
+/// the reel is empty does not count. Fails with `NoReply` if no connection could be made, an
+/// allocation failed, no reply came, or the bytes that came are no reply. If the close after a
+/// refusal gets no reply, it fails with that.
 pub fn look_at_reel<P: Peer>(
     alloc: Global,
     peer: &mut P,
     device: &[u8],
 ) -> Result<ReelFront, TapeFault>
     requires { IsLine device.now }
-    // If the peer's log is known, the call sends an open for reading, a rewind, a read of 1,024
-    // bytes, and a close. If the read returns no record, the call sends a rewind and MTFSF 1
-    // (forward over one mark) before the close. The call sends each request once, after the reply
-    // to the previous request. If the open is refused, the call sends nothing more. If a rewind,
-    // the read or MTFSF is refused, the call sends the close next.
-    //
-    // After the reply to the close has come, the call returns what the reel begins with. The call
-    // returns the record if the read returned one, or `Mark` if MTFSF was done. If MTFSF was
-    // refused with `EIO`, the reel is empty, and the call returns `Empty`. Any other refusal, even
-    // of the close, is a failure. After a failure, the call returns an error that names the first
-    // request whose refusal is a failure.
-    //
-    // If a request gets no reply, the call returns the reason.
     ensures { IsLook P.tells device.now peer.old peer.new result }
 {
     let Ok(mut tape) = RemoteTape::new(alloc) else {
@@ -75,7 +61,6 @@ pub fn look_at_reel<P: Peer>(
     found
 }
 
-/// Makes all requests of a look over the open connection.
 fn look_over<P: Peer>(
     alloc: Global,
     tape: &mut RemoteTape,
@@ -95,7 +80,6 @@ fn look_over<P: Peer>(
     }
 }
 
-/// Finds out what the reel in the opened drive begins with.
 fn find_front<P: Peer>(
     alloc: Global,
     tape: &mut RemoteTape,
@@ -111,7 +95,7 @@ fn find_front<P: Peer>(
     keep_record(alloc, first)
 }
 
-/// Keeps the beginning of the first record. Fails if the allocation for it fails.
+/// Copies the bytes that the tape lends. A failed allocation is a read without a reply.
 fn keep_record(alloc: Global, first: &[u8]) -> Result<ReelFront, TapeFault>
     ensures { IsRecordKept first.now result }
 {
@@ -124,7 +108,6 @@ fn keep_record(alloc: Global, first: &[u8]) -> Result<ReelFront, TapeFault>
     }
 }
 
-/// Finds out whether the reel begins with a mark or is empty, after a read returned no bytes.
 fn find_mark<P: Peer>(tape: &mut RemoteTape, peer: &mut P) -> Result<ReelFront, TapeFault>
     ensures { (device : List ℕ) → IsLookPart P.tells device RewindingAgain Closing peer.old peer.new result }
 {
@@ -135,8 +118,6 @@ fn find_mark<P: Peer>(tape: &mut RemoteTape, peer: &mut P) -> Result<ReelFront, 
     }
 }
 
-/// Returns what it means that spacing over a mark failed with this fault: if it was refused with
-/// `EIO`, the reel is empty; otherwise it is the fault of the look.
 fn no_mark(fault: TapeFault) -> Result<ReelFront, TapeFault>
     ensures { result ≡ (if is_refused_with EIO fault.cause then Ok fronts.Empty else Err fault) }
 {
@@ -146,8 +127,6 @@ fn no_mark(fault: TapeFault) -> Result<ReelFront, TapeFault>
     Err(fault)
 }
 
-/// Closes the device, and returns the `front` that was found. Fails if the close is refused or gets
-/// no reply.
 fn close_found<P: Peer>(
     tape: &mut RemoteTape,
     peer: &mut P,
@@ -160,8 +139,7 @@ fn close_found<P: Peer>(
     Ok(front)
 }
 
-/// Closes the device after `refused` was refused with this number. Returns why the look failed:
-/// that refusal, whatever the reply to the close, or the fault of the close if it gets none.
+/// Returns the refusal of `refused`, unless the close gets no reply.
 fn close_refused<P: Peer>(
     tape: &mut RemoteTape,
     peer: &mut P,

@@ -10,7 +10,7 @@ ghost use Rattle.rmt_wire.specs.Print.{IsPrinted};
 use crate::Peer;
 use crate::lines::{LINE_ROOM, push_part};
 use arrayvec::ArrayString;
-use exit_status::ExitStatus;
+use console::ExitStatus;
 use remote_tape::{CallFault, RemoteTape, TapeReply};
 use rmt_wire::fcntl::{O_RDONLY, O_RDWR};
 use rmt_wire::mtio::MTWEOF;
@@ -22,15 +22,14 @@ use std::io::Write;
 /// the server's reply on one line: `A1`, or `E5 Input/output error`.
 ///
 /// It opens the device, for reading and writing if the operation is `MTWEOF` and for reading if
-/// not, and closes it after the operation. If the open is refused, that reply is printed instead.
-/// The reply to the close is ignored.
+/// not, and closes it after the operation. If the open is refused, that reply is printed instead,
+/// and the close is next. The reply to the close is ignored.
 ///
 /// The device is one line of at most `LINE_LIMIT` bytes, and both numbers are at most
 /// `NUMBER_LIMIT`.
 ///
 /// Returns the exit status of `rdump mt`: `Success` if the operation was done and the reply was
-/// printed, else `Abnormal`. Nothing is printed if memory runs out, if the connection ends before
-/// the reply, or if the bytes that come are no reply.
+/// printed, else `Abnormal`. Nothing is printed if an allocation fails or no reply comes.
 pub fn mt<P: Peer, W: Write>(
     alloc: Global,
     peer: &mut P,
@@ -42,15 +41,6 @@ pub fn mt<P: Peer, W: Write>(
     requires device { IsLine device.now }
     requires op { op ≤ NUMBER_LIMIT }
     requires count { count ≤ NUMBER_LIMIT }
-    // If the peer's log is known, the call sends an open, the operation and a close. The call sends
-    // each request once, after the reply to the previous request. The call opens the device for
-    // reading and writing if the operation writes marks (MTWEOF), and otherwise for reading. If the
-    // open is refused, the call sends the close next, and does not send the operation.
-    //
-    // The call prints the reply to the operation. If the open was refused, the call prints the
-    // reply to the open instead. If the reply that is to be printed does not come, the call prints
-    // nothing. The call returns `Success` if and only if the operation was done and the reply to
-    // the operation was printed. Otherwise the call returns `Abnormal`.
     ensures { IsMt (stream_kind P.tells W.contents) device.now op count
         (stream_ends peer.old out.old) (stream_ends peer.new out.new) result }
 {
@@ -65,7 +55,6 @@ pub fn mt<P: Peer, W: Write>(
     status
 }
 
-/// Does the operation over the open connection, and prints its reply. Returns the exit status.
 fn operate<P: Peer, W: Write>(
     tape: &mut RemoteTape,
     peer: &mut P,
@@ -88,8 +77,6 @@ fn operate<P: Peer, W: Write>(
     status
 }
 
-/// Opens the device and requests the operation. Returns the reply to the operation, or that to the
-/// open if the open is refused. Fails if a request gets no reply.
 fn ask<P: Peer>(
     tape: &mut RemoteTape,
     peer: &mut P,
@@ -110,14 +97,12 @@ fn ask<P: Peer>(
     tape.call(peer, &Request::Op { op, count })
 }
 
-/// Returns the mode in which the device is opened for this operation.
 fn mode_of(op: u32) -> u32
     ensures { result ≡ mode_for op }
 {
     if op == MTWEOF { O_RDWR } else { O_RDONLY }
 }
 
-/// Prints a reply. Returns the exit status.
 fn print_reply<W: Write>(answer: &TapeReply, out: &mut Counted<W>) -> ExitStatus
     ensures { IsReplyPrinted W.contents (plain_number answer.now) out.old out.new result }
 {
@@ -129,7 +114,6 @@ fn print_reply<W: Write>(answer: &TapeReply, out: &mut Counted<W>) -> ExitStatus
     }
 }
 
-/// Prints the line of a reply. Returns whether it was printed.
 fn print_answer<W: Write>(answer: &TapeReply, out: &mut Counted<W>) -> bool
     ensures { IsPrinted W.contents (reply_line (plain_number answer.now)) out.old out.new result }
 {
@@ -141,7 +125,6 @@ fn print_answer<W: Write>(answer: &TapeReply, out: &mut Counted<W>) -> bool
     }
 }
 
-/// Prints a text and a line feed. Returns whether both were printed.
 #[tactic(auto, using(crate::proofs::Printed::printed_both))]
 fn print_line<W: Write>(out: &mut Counted<W>, text: &[u8]) -> bool
     ensures { IsPrinted W.contents (text.now ++ codes "\n") out.old out.new result }
@@ -149,8 +132,6 @@ fn print_line<W: Write>(out: &mut Counted<W>, text: &[u8]) -> bool
     print_text(out, text) && print_text(out, b"\n")
 }
 
-/// Prints a letter, a number and then `end`. Letter and `end` have at most 2 bytes together.
-/// Returns whether all was printed.
 fn print_number<W: Write>(out: &mut Counted<W>, letter: &str, number: u64, end: &str) -> bool
     requires { length letter.now + length end.now ≤ 2 }
     ensures { IsPrinted W.contents (letter.now ++ decimal number ++ end.now) out.old out.new result }

@@ -5,7 +5,6 @@ ghost use Rattle.rdump_net.specs.declared.observer.Reply.TheVariants as replies;
 use crate::Reply;
 use std::io::{ErrorKind, Read};
 
-/// The answer after which a volume is tried again.
 const YES: &[u8] = b"yes";
 
 /// Reads the answers to `retry?` from a stream, one line each.
@@ -15,7 +14,7 @@ pub struct Answers<R> {
 }
 
 impl<R: Read> Answers<R> {
-    /// Makes the reader of the answers on this stream.
+    /// Reads the answers from this stream.
     pub fn new(operator: R) -> Self {
         Answers { operator }
     }
@@ -24,14 +23,12 @@ impl<R: Read> Answers<R> {
     ///
     /// The end of the input ends its last line, and so does a read that fails.
     pub fn answer(&mut self) -> Reply
-        // The call never returns `Leave`. No clause says which other answer comes.
         ensures { result ≢ replies.Leave }
     {
         answer(&mut self.operator)
     }
 }
 
-/// Reads one line of the operator's input. Returns `Retry` if it is exactly `yes`, else `Abandon`.
 pub(crate) fn answer<R: Read>(operator: &mut R) -> Reply
     ensures { result ≢ replies.Leave }
 {
@@ -42,9 +39,6 @@ pub(crate) fn answer<R: Read>(operator: &mut R) -> Reply
     }
 }
 
-/// Reads one line of the operator's input. Returns whether it is exactly `yes`.
-///
-/// The end of the input ends its last line, and so does a read that fails.
 fn says_yes<R: Read>(operator: &mut R) -> bool {
     let mut wanted = YES;
     let mut agrees = true;
@@ -60,8 +54,6 @@ fn says_yes<R: Read>(operator: &mut R) -> bool {
     false
 }
 
-/// Reads the next byte, and retries if interrupted. Returns None at the end of the input or if a
-/// read fails.
 fn next_byte<R: Read>(operator: &mut R) -> Option<u8> {
     let mut byte = [0];
     for _ in 0..u64::MAX {

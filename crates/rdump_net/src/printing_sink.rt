@@ -10,10 +10,8 @@ use crate::sink::{SinkStopped, Verdict, VolumeSink};
 use rmt_wire::{Counted, print_text};
 use std::io::Write;
 
-/// The output for the label, and the file for the records after it.
 #[derive(Drop)]
 pub(crate) struct Outputs<'a, F, W> {
-    /// Where the records go.
     pub(crate) file: &'a mut Counted<F>,
     /// Where the label goes, up to its first zero byte.
     pub(crate) out: &'a mut Counted<W>,
@@ -42,7 +40,6 @@ impl<F: Write, W: Write> VolumeSink for Outputs<'_, F, W> {
     }
 }
 
-/// Writes all of these bytes. Fails with `SinkStopped` if it cannot.
 fn write_whole<W: Write>(out: &mut Counted<W>, bytes: &[u8]) -> Result<(), SinkStopped>
     ensures { IsPrinted W.contents bytes.now out.old out.new (has_accepted result) }
 {
@@ -53,7 +50,6 @@ fn write_whole<W: Write>(out: &mut Counted<W>, bytes: &[u8]) -> Result<(), SinkS
     }
 }
 
-/// Returns the text of a label: the bytes before its first zero byte.
 fn label_text(label: &[u8]) -> &[u8]
     ensures { result.now ≡ spec.text_of label.now }
 {
@@ -63,7 +59,6 @@ fn label_text(label: &[u8]) -> &[u8]
     }
 }
 
-/// Returns the index of the first zero byte.
 fn first_zero(bytes: &[u8]) -> Option<usize>
     ensures within { IfSome result (λ n. n ≤ length bytes.now) }
     ensures found { result ≡ position (λ b. nat_eq b 0) bytes.now }

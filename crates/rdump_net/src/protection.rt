@@ -17,17 +17,11 @@ pub enum Protection {
     Mark,
 }
 
-/// Returns why a dump must not overwrite a reel that begins with `front`, or None if the dump may
-/// overwrite the reel.
+/// Returns why a dump must not overwrite a reel that begins with `front`, or None if it may.
 ///
-/// The dump may overwrite the reel if the reel is empty, or begins with a label of the same name,
-/// level and date. The label's volume number does not matter. `date` is in seconds since 1970
-/// began, UTC.
+/// A dump may overwrite an empty reel, and one that begins with a label of the same name, level and
+/// date, whatever its volume number. `date` is in seconds since 1970 began, UTC.
 pub fn find_protection(front: &ReelFront, name: &str, level: u64, date: u64) -> Option<Protection>
-    // The call returns None if and only if the reel is empty or begins with a label that has the
-    // given name, level and date. Any other reel is protected. For a protected reel, the call
-    // returns what the reel begins with: a label of another dump, a record that is not a label, or
-    // a mark.
     ensures { IsDecided (dump_key name.now level date) (plain_front front.now) result }
 {
     match front {
@@ -40,7 +34,6 @@ pub fn find_protection(front: &ReelFront, name: &str, level: u64, date: u64) -> 
     }
 }
 
-/// Returns `OtherDump` if the label differs from this name, level or date, else None.
 fn other_dump(label: &VolumeLabel, name: &str, level: u64, date: u64) -> Option<Protection>
     ensures { IsLabelDecided (dump_key name.now level date) label.now result }
 {

@@ -39,7 +39,6 @@ impl Model for Retries {
 impl Retries {
     /// Allows `times` tries after setbacks in a row.
     pub fn new(times: u32) -> Self
-        // All tries are left.
         ensures times { result.times ≡ times }
         ensures left { result.left ≡ times }
     {
@@ -48,21 +47,23 @@ impl Retries {
 
     /// Takes note of a counted volume.
     pub fn counted(&mut self)
-        // All tries are left again.
         ensures times { self.new.times ≡ self.old.times }
         ensures left { self.new.left ≡ self.old.times }
     {
         self.left = self.times;
     }
 
-    /// Returns whether to try again after a setback. If so, one try fewer is left.
+    /// Returns whether to try again after a setback. If so, one try fewer is left. Returns false if
+    /// no try is left or the setback stays; then nothing changes.
+    ///
+    /// These setbacks stay:
+    ///
+    /// - a protected reel;
+    /// - a refusal with ENOENT, EBADF, EACCES or EINVAL;
+    /// - `Botched`: bytes that are no reply, or a reply that the protocol does not allow;
+    /// - a short write, a fault of the source, a reel that is too small, or a counted reel.
     pub fn take(&mut self, setback: Setback) -> bool
-        // Returns true if and only if a try is left and the setback does not stay. The setbacks that
-        // stay are: a protected reel; the refusals ENOENT, EBADF, EACCES and EINVAL, of an attempt or
-        // of a look; a reply that the protocol does not allow, to either; and of an attempt a short
-        // write, a fault of the source, a reel that is too small, and a reel that is counted.
         ensures again { result ≡ tries_again (is_hopeless setback) self.old.left }
-        // If the call returns true, one try fewer is left. Otherwise nothing changes.
         ensures left { self.new.left ≡ left_after (is_hopeless setback) self.old.left }
         ensures times { self.new.times ≡ self.old.times }
     {
@@ -74,7 +75,6 @@ impl Retries {
     }
 }
 
-/// Returns whether a setback stays, however long one waits.
 fn stays(setback: Setback) -> bool
     ensures { result ≡ is_hopeless setback }
 {
@@ -85,7 +85,6 @@ fn stays(setback: Setback) -> bool
     }
 }
 
-/// Returns whether the fault of an attempt stays, however long one waits.
 fn stays_attempt(fault: AttemptFault) -> bool
     ensures { result ≡ is_hopeless_attempt fault }
 {
@@ -100,7 +99,6 @@ fn stays_attempt(fault: AttemptFault) -> bool
     }
 }
 
-/// Returns whether the cause for which a look failed stays, however long one waits.
 fn stays_look(cause: TapeCause) -> bool
     ensures { result ≡ is_hopeless_look cause }
 {
@@ -110,7 +108,6 @@ fn stays_look(cause: TapeCause) -> bool
     }
 }
 
-/// Returns whether an error of a server stays, however long one waits.
 fn is_lasting_errno(number: u32) -> bool
     ensures { result ≡ is_lasting number }
 {

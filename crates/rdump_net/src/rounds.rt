@@ -1,5 +1,4 @@
-//! The rounds of a dump: attempt after attempt, the lines that report them, and the answers to the
-//! questions.
+//! The rounds of a dump: its attempts, the lines that report them, and the answers.
 ghost use Rattle.std.specs.Prelude.{◌≡◌, ◌≢◌, ◌⊎◌, false, List, [], Some, length, drop, if◌then◌else◌};
 ghost use Rattle.dump_client.specs.Standing.{VolumeCount, checkpoint_of};
 ghost use Rattle.dump_client.specs.declared.stage.Stage.TheVariants as stages;
@@ -19,7 +18,7 @@ use dump_client::{Answer, AttemptFault, Blocks, Client, State, VolumeCount};
 use rmt_wire::{Counted, print_text};
 use std::io::Write;
 
-/// Does the one thing that the client waits for. Returns how the dump ended, if it did.
+/// Does the one thing that the client waits for.
 #[tactic(auto, using(crate::proofs::Talking::nothing_said, crate::proofs::Talking::by_itself, crate::proofs::Printed::last_alone))]
 pub(crate) fn round<B: Blocks, P: Peer, W: Write, O: DumpObserver<B, P>>(
     client: &mut Client<B>,
@@ -43,8 +42,8 @@ pub(crate) fn round<B: Blocks, P: Peer, W: Write, O: DumpObserver<B, P>>(
     }
 }
 
-/// Has the client try its next volume, if the observer lets the attempt begin. Tells the observer
-/// of what was counted, and prints the outcome. Returns how the dump ended, if it did.
+/// Makes one attempt, if the observer lets it begin. The observer is told of each count before the
+/// count's line is printed.
 fn try_volume<B: Blocks, P: Peer, W: Write, O: DumpObserver<B, P>>(
     client: &mut Client<B>,
     peer: &mut P,
@@ -65,7 +64,6 @@ fn try_volume<B: Blocks, P: Peer, W: Write, O: DumpObserver<B, P>>(
     report(client, before, attempted, observer, out)
 }
 
-/// Returns whether an attempt may begin or go on. If none is under way, the observer is asked.
 fn may_attempt<B: Blocks, P: Peer, O: DumpObserver<B, P>>(
     client: &Client<B>,
     observer: &mut O,
@@ -76,10 +74,6 @@ fn may_attempt<B: Blocks, P: Peer, O: DumpObserver<B, P>>(
     client.state() != State::Ready || observer.may_begin()
 }
 
-/// Prints the counted volumes after the first `before`, of which the observer has been told. Then
-/// prints that the attempt failed, or asks whether to try again, if it did not start.
-///
-/// Returns how the dump ended: if printing failed, or after the answer.
 fn report<B: Blocks, P: Peer, W: Write, O: DumpObserver<B, P>>(
     client: &Client<B>,
     before: usize,
@@ -101,9 +95,8 @@ fn report<B: Blocks, P: Peer, W: Write, O: DumpObserver<B, P>>(
     report_outcome(client, attempted, observer, out)
 }
 
-/// Prints that an attempt failed, if it did. If it did not start, it asks here whether to try again.
-///
-/// Returns how the dump ended: if printing failed, or after the answer.
+/// Prints that an attempt failed. One that did not start left the client as it was, so the question
+/// is asked here.
 #[tactic(auto, using(crate::proofs::Observed::observes_none))]
 fn report_outcome<B: Blocks, P: Peer, W: Write, O: DumpObserver<B, P>>(
     client: &Client<B>,
@@ -119,7 +112,7 @@ fn report_outcome<B: Blocks, P: Peer, W: Write, O: DumpObserver<B, P>>(
 {
     match attempted {
         Attempted::Over => None,
-        Attempted::Failed(fault) => print_end(client, fault, out),
+        Attempted::Failed(fault) => report_failed(client, fault, out),
         Attempted::NotStarted => {
             let lines = failure_of(client, AttemptFault::OutOfMemory);
             ask_here(client, lines.as_bytes(), observer, out)
@@ -128,9 +121,8 @@ fn report_outcome<B: Blocks, P: Peer, W: Write, O: DumpObserver<B, P>>(
     }
 }
 
-/// Prints that an attempt failed. Returns `PrintFailed` if that could not be printed, else None.
 #[tactic(auto, using(crate::proofs::Printed::lines_failed))]
-fn print_end<B: Blocks, W: Write>(
+fn report_failed<B: Blocks, W: Write>(
     client: &Client<B>,
     fault: AttemptFault,
     out: &mut Counted<W>,
@@ -145,10 +137,6 @@ fn print_end<B: Blocks, W: Write>(
     }
 }
 
-/// Prints these lines, which end with the question, and takes the observer's answer. It is for an
-/// attempt that did not start.
-///
-/// Returns how the dump ended: if printing failed, or if the answer is not to try again.
 fn ask_here<B: Blocks, P: Peer, W: Write, O: DumpObserver<B, P>>(
     client: &Client<B>,
     lines: &[u8],
@@ -171,14 +159,12 @@ fn ask_here<B: Blocks, P: Peer, W: Write, O: DumpObserver<B, P>>(
     }
 }
 
-/// Returns how many volumes are counted.
 fn volumes<B: Blocks>(client: &Client<B>) -> usize
     ensures { result ≡ length client.now.at.counts }
 {
     client.counted().len()
 }
 
-/// Tells the observer of the counted volumes after the first `before`, in order.
 fn tell_counts<B: Blocks, P: Peer, O: DumpObserver<B, P>>(
     client: &Client<B>,
     before: usize,
@@ -191,14 +177,12 @@ fn tell_counts<B: Blocks, P: Peer, O: DumpObserver<B, P>>(
     }
 }
 
-/// Prints the counted volumes after the first `before`. Returns whether all were printed.
 fn print_since<B: Blocks, W: Write>(client: &Client<B>, before: usize, out: &mut Counted<W>) -> bool
     ensures { IsPrinted W.contents (count_lines (drop before client.now.at.counts)) out.old out.new result }
 {
     print_counts(counts_from(client, before), out)
 }
 
-/// Returns the counted volumes after the first `before`.
 #[tactic(auto, using(std::proofs::lemmas::List::drop_min))]
 fn counts_from<B: Blocks>(client: &Client<B>, before: usize) -> &[VolumeCount]
     ensures { result.now ≡ drop before client.now.at.counts }
@@ -207,8 +191,6 @@ fn counts_from<B: Blocks>(client: &Client<B>, before: usize) -> &[VolumeCount]
     &counts[before.min(counts.len())..]
 }
 
-/// Prints that the next volume failed, and the question to the operator. Returns whether both were
-/// printed.
 fn print_failure<B: Blocks, W: Write>(
     client: &Client<B>,
     fault: AttemptFault,
@@ -219,7 +201,6 @@ fn print_failure<B: Blocks, W: Write>(
     print_text(out, failure_of(client, fault).as_bytes())
 }
 
-/// Returns the lines that report a failure of the next volume, with the question to the operator.
 fn failure_of<B: Blocks>(client: &Client<B>, fault: AttemptFault) -> ArrayString<LINE_ROOM>
     ensures { result.bytes ≡ failure_lines (checkpoint_of client.now.at.counts).0 fault }
 {
@@ -227,8 +208,6 @@ fn failure_of<B: Blocks>(client: &Client<B>, fault: AttemptFault) -> ArrayString
     failure_text(volume, fault)
 }
 
-/// Takes the observer's answer, and passes it to the client. Returns `Left` if the dump is to end at
-/// once; then the client is unchanged.
 fn ask<B: Blocks, P: Peer, O: DumpObserver<B, P>>(
     client: &mut Client<B>,
     observer: &mut O,
@@ -244,16 +223,12 @@ fn ask<B: Blocks, P: Peer, O: DumpObserver<B, P>>(
     take_reply(client, reply)
 }
 
-/// Passes an answer to the client. Returns `Left` if the dump is to end at once; then the client is
-/// unchanged.
 #[tactic(auto, using(crate::proofs::Talking::answered_alone, crate::proofs::Talking::left_alone))]
 fn take_reply<B: Blocks>(client: &mut Client<B>, reply: Reply) -> Option<Conclusion>
     requires { client.old.at.stage ≡ stages.Asking }
     ensures same { client.new.at.counts ≡ client.old.at.counts }
     ensures alone { TalksAlone B.holds client.old client.new }
     ensures ends { IsReplied client.new.at result }
-    // If the answer is `Leave`, the client is unchanged, and the dump ends as `Left`. Otherwise the
-    // dump goes on.
     ensures left { reply ≡ replies.Leave → (client.new ≡ client.old) × (result ≡ Some ends.Left) }
     ensures able { result ≡ Some ends.Left → reply ≡ replies.Leave }
 {
@@ -266,8 +241,6 @@ fn take_reply<B: Blocks>(client: &mut Client<B>, reply: Reply) -> Option<Conclus
     None
 }
 
-/// Prints the dump's last line. Returns how it ended: `Complete` or `Abandoned`, and `PrintFailed`
-/// if the line was not printed.
 pub(crate) fn finish<B: Blocks, W: Write>(client: &Client<B>, out: &mut Counted<W>) -> Conclusion
     ensures printed { IsFinish W.contents client.now.at out.old out.new result }
     ensures stays { result ≢ ends.Left }
@@ -284,7 +257,6 @@ pub(crate) fn finish<B: Blocks, W: Write>(client: &Client<B>, out: &mut Counted<
     }
 }
 
-/// Returns `end` if the last line was printed, else `PrintFailed`.
 fn ended(printed: bool, end: Conclusion) -> Conclusion
     ensures { result ≡ (if printed then end else ends.PrintFailed) }
 {
@@ -295,7 +267,6 @@ fn ended(printed: bool, end: Conclusion) -> Conclusion
     }
 }
 
-/// Returns the last line of a complete dump.
 fn last_line<B: Blocks>(client: &Client<B>) -> ArrayString<LINE_ROOM>
     ensures { result.bytes ≡ complete_line client.now.at.counts }
 {

@@ -1,4 +1,4 @@
-//! A peer over TCP, or over a Unix socket.
+//! A peer over TCP or a Unix socket.
 
 use crate::Peer;
 use sockets::{Stream, connect};
@@ -8,25 +8,21 @@ use std::rt::Clock;
 use std::thread;
 use std::time::Duration;
 
-/// How long to wait before a connection that follows a silent one, in seconds.
 const PAUSE_SECONDS: u64 = 1;
 
-/// A peer at an address `HOST:PORT`, which it reaches over TCP, or `unix:PATH`, the path of a Unix
-/// socket. It keeps no log of what passed.
-///
-/// Each connection sends its bytes without delay (TCP_NODELAY): they do not wait for a reply to
-/// earlier bytes.
+/// A peer at an address `HOST:PORT`, which it reaches over TCP, without delay (TCP_NODELAY), or
+/// `unix:PATH`, the path of a Unix socket.
 ///
 /// A timeout limits each wait for bytes of the far end, and each wait until it takes bytes. It also
-/// limits how long each address of a host may take to answer a connection. If such a wait takes
-/// longer, the connection has failed, and `failure` is the error `TimedOut`. Without a timeout only
-/// the system may give a connection up. The search for the addresses of a host never has a timeout,
-/// nor has the connection to a Unix socket.
+/// limits how long each address of a host may take to answer. If a wait takes longer, the
+/// connection has failed, and `failure` is the error `TimedOut`. Without a timeout only the system
+/// may give a connection up. The search for the addresses of a host never has a timeout, nor has
+/// the connection to a Unix socket.
 ///
 /// A connection that failed, or that the far end ended, is closed.
 ///
-/// A new connection first waits one second if the latest one could not be made or received no byte.
-/// So a client that retries in a loop does not burden the server.
+/// A new connection first waits one second if the latest one could not be made or received no byte,
+/// to spare the server.
 #[derive(Drop)]
 pub struct SocketPeer<'a, R: Net + Clock> {
     runtime: &'a R,
@@ -38,8 +34,8 @@ pub struct SocketPeer<'a, R: Net + Clock> {
 }
 
 impl<'a, R: Net + Clock> SocketPeer<'a, R> {
-    /// Returns a peer for the given address, without a connection. `timeout` limits each wait for
-    /// the server; None is no limit. If it is zero, each connection fails.
+    /// Returns a peer without a connection. A `timeout` of None is no limit. If it is zero, each
+    /// connection fails.
     pub fn new(runtime: &'a R, address: &'a str, timeout: Option<Duration>) -> Self {
         SocketPeer {
             runtime,
@@ -51,21 +47,18 @@ impl<'a, R: Net + Clock> SocketPeer<'a, R> {
         }
     }
 
-    /// Returns the system's error if the latest connection failed or could not be made. The error's
-    /// kind is `TimedOut` if a wait took too long. None if the connection did not fail, or if the
-    /// far end closed it.
+    /// Returns the system's error if the latest connection failed or could not be made. None if it
+    /// did not fail, or if the far end closed it.
     pub fn failure(&self) -> Option<&io::Error> {
         self.failure.as_ref()
     }
 
-    /// Waits a second if the latest connection received nothing.
     fn pause(&self) {
         if self.was_silent {
             thread::sleep(self.runtime, Duration::from_secs(PAUSE_SECONDS));
         }
     }
 
-    /// Closes the connection, which failed with this error, and keeps the error.
     fn fail(&mut self, error: io::Error) {
         self.stream = None;
         self.failure = Some(error);

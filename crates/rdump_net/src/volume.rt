@@ -1,6 +1,4 @@
 //! Reading a volume back over a peer.
-//!
-//! A peer is the far end of a connection: what is sent over it goes through that connection.
 ghost use Rattle.std.specs.Prelude.{◌≡◌, Bool};
 ghost use Rattle.rmt_wire.specs.Number.{IsLine};
 ghost use Rattle.rmt_wire.specs.Request as requests;
@@ -13,7 +11,7 @@ use crate::Peer;
 use crate::fault::ReadFault;
 use crate::printing_sink::Outputs;
 use crate::sink::{Verdict, VolumeSink};
-use exit_status::ExitStatus;
+use console::ExitStatus;
 use remote_tape::{
     CallFault, MarkSearch, RemoteTape, TapeCause, TapeFault, TapeRequest, find_mark,
 };
@@ -25,22 +23,21 @@ use std::io::Write;
 /// What to do with a reel once its volume was read whole.
 #[derive(Clone, Copy, Debug, PartialEq, Eq)]
 pub enum AfterVolume {
-    /// Leave the reel in the drive. Do not check whether a mark ends the volume.
+    /// Leave the reel on its stack, and check nothing.
     Stay,
-    /// Leave the reel in the drive. If a label was read, check whether a mark ends the volume.
+    /// Leave the reel on its stack. If a label was read, check whether a mark ends the volume.
     Check,
     /// Check, and if a mark ends the volume and the sink completes, move the reel to the bin
-    /// (`MTOFFL`). A reel without a label stays.
+    /// (`MTOFFL`).
     Offline,
 }
 
-/// Reads the first volume of a reel, and leaves the reel in the drive. It calls `copy_volume` with
-/// `AfterVolume::Stay`. It prints the label to `out`, up to its first zero byte. It writes the
-/// records after the label to `file`.
+/// Reads the first volume of a reel, which stays on its stack (`AfterVolume::Stay`). It prints the
+/// label to `out`, up to its first zero byte, and writes the records after it to `file`.
 ///
-/// Returns the exit status: `Success` if the volume was read whole, else `Abnormal`. The device is
-/// one line of at most `LINE_LIMIT` bytes. After a write that failed nothing more is sent. If the
-/// reel begins with a mark, or is empty, nothing is printed or written.
+/// Returns `Success` if the volume was read whole, else `Abnormal`. The device is one line of at
+/// most `LINE_LIMIT` bytes. After a write that failed nothing more is sent. If the reel begins with
+/// a mark, or is empty, nothing is printed or written.
 pub fn read_volume<P: Peer, F: Write, W: Write>(
     alloc: Global,
     peer: &mut P,
@@ -49,12 +46,6 @@ pub fn read_volume<P: Peer, F: Write, W: Write>(
     out: &mut Counted<W>,
 ) -> ExitStatus
     requires { IsLine device.now }
-    // The call sends the requests that `copy_volume` sends with `AfterVolume::Stay`. The call
-    // prints the text of the label, up to the first zero byte. The call writes the records after
-    // the label to the file. If a write fails, only a beginning of the text or of the records is
-    // written. No clause says that the call stops reading after a failed write. The call returns
-    // `Success` if the whole volume was read, no write failed, and the close was done. Otherwise
-    // the call returns `Abnormal`.
     ensures { IsReadStatus (copy_kind P.tells F.contents W.contents) device.now
         (copy_ends peer.old file.old out.old) (copy_ends peer.new file.new out.new) result }
 {
@@ -65,7 +56,6 @@ pub fn read_volume<P: Peer, F: Write, W: Write>(
     }
 }
 
-/// Reads the first volume of a reel into these outputs, and leaves the reel in the drive.
 fn copy_out<P: Peer, F: Write, W: Write>(
     alloc: Global,
     peer: &mut P,
@@ -82,33 +72,32 @@ fn copy_out<P: Peer, F: Write, W: Write>(
     copy_volume(alloc, peer, device, AfterVolume::Stay, outputs)
 }
 
-/// Reads the first volume of a reel over a new connection, and passes the volume to `sink`. The
-/// sink gets the first record whole, as the label. It gets each record after it as a block,
-/// numbered from 0, up to the first mark or the end of the reel.
+/// Reads the first volume of a reel over a new connection, and passes it to `sink`. The sink gets
+/// the first record whole, as the label. It gets each later record as a block, numbered from 0, up
+/// to the first mark or the end of the reel.
 ///
 /// It opens the device for reading, rewinds, reads record after record, and closes the device.
-/// After an error reply to one of these or to MTOFFL it sends nothing more. The same holds after
-/// bytes that are no reply. If the sink stops the read, it sends nothing more and hangs up.
+/// After an error reply to one of these or to MTOFFL, or bytes that are no reply, it sends nothing
+/// more. The same holds once the sink stops the read.
 ///
 /// A read returns nothing at a mark, and also at the end of a reel. With `AfterVolume::Check` and
-/// `Offline` the function finds out which it was, after the last record:
+/// `Offline` the function finds out which it was:
 ///
-/// - It spaces back over one record (MTBSR). If that is done, there is no mark, and the result is
-///   `NoMark`.
+/// - It spaces back over one record (MTBSR). If that is done, there is no mark: `NoMark`.
 /// - If that is refused with EIO, it rewinds, spaces forward over as many records as were read
 ///   (MTFSR), and over a mark (MTFSF).
 /// - Any other refusal, or more than `NUMBER_LIMIT` records, gives `Undetermined`.
 ///
-/// After `NoMark` or `Undetermined` it closes the device, and the reel stays.
+/// After `NoMark` or `Undetermined` it closes the device, whatever the reply, and the reel stays.
 ///
-/// If it finds a mark, it gives that to the sink and asks the sink to complete. If the sink
-/// completes, then with `Offline` it takes the reel offline, and then it closes the device. A reel
-/// that begins with a mark, or is empty, has no label: it stays, the sink is given nothing, and the
-/// close follows. If the connection ends before the reply to MTOFFL comes, the reel may be in the
-/// bin.
+/// If there is a mark, the sink is given it and asked to complete. Once it has, `Offline` takes the
+/// reel offline, and the close follows. If the connection ends before the reply to MTOFFL comes,
+/// the reel may be in the bin.
+///
+/// If the reel begins with a mark, or is empty, the sink is given nothing, and the reel stays.
 ///
 /// The device is one line of at most `LINE_LIMIT` bytes. The function allocates for one record at a
-/// time. `ReadFault` lists the errors.
+/// time.
 pub fn copy_volume<P: Peer, S: VolumeSink>(
     alloc: Global,
     peer: &mut P,
@@ -117,54 +106,9 @@ pub fn copy_volume<P: Peer, S: VolumeSink>(
     sink: &mut S,
 ) -> Result<(), ReadFault>
     requires { IsLine device.now }
-    // If the peer's log is known, the call sends an open for reading and a rewind. Then the call
-    // sends reads until a read returns no bytes. Then the call sends a close. The call sends each
-    // request after the reply to the previous request. If the open, the first rewind, a read or the
-    // close is refused, the call sends nothing more. With `AfterVolume::Stay`, the call sends no
-    // other requests.
-    //
-    // With `AfterVolume::Check` or `Offline`, the call searches for the mark that ends the volume,
-    // after the last read. If the first read returned no record, there is no search. The search
-    // begins with MTBSR 1 (back over one record). If MTBSR is refused with EIO, the call sends a
-    // second rewind, MTFSR (forward over records), and MTFSF 1 (forward over one mark). The count
-    // of MTFSR is the number of all records, the label included. If MTBSR is refused with another
-    // error, the call sends the close next. The close is also next if the second rewind, MTFSR or
-    // MTFSF is refused. If the number of records is above `NUMBER_LIMIT`, the call sends the close
-    // in place of MTFSR.
-    //
-    // If MTBSR was done, the call returns `NoMark`: no mark ends the volume. If the call gave up
-    // the search for the mark, the call returns `Undetermined`. The call gives up the search if
-    // MTBSR is refused with an error other than EIO. The call also gives up if the second rewind,
-    // MTFSR or MTFSF is refused, or if the number of records is above `NUMBER_LIMIT`. Before the
-    // call returns `NoMark` or `Undetermined`, the call sends the close and ignores the reply.
-    // After a search, the call succeeds only if MTFSF was done and the sink completed the volume.
-    //
-    // The call gives the first record to the sink as the label, and each later record as a block.
-    // The blocks have the numbers 0, 1 and so on. If MTFSF was done, the call gives the mark to the
-    // sink, and then asks the sink to complete the volume. Otherwise the call gives no mark to the
-    // sink, and does not ask the sink to complete the volume. The promises about the sink hold if
-    // the sink's contract says what the sink's calls do.
-    //
-    // MTOFFL moves the reel to the bin. The call sends MTOFFL only if the argument `after` is
-    // `Offline`, MTFSF was done, and the sink completed the volume. In that case, the call sends
-    // MTOFFL exactly once, before the close.
-    //
-    // If the first read returns no bytes, there is no label. Without a label, the call gives
-    // nothing to the sink, does not search for a mark, and does not send MTOFFL. The call then
-    // sends the close, and returns what it would return with `AfterVolume::Stay`.
-    //
-    // If the sink does not accept the label or a block, or does not complete the volume, the sink
-    // stops the read. After the sink has stopped the read, the call sends nothing more, not even
-    // the close. The call then gives nothing more to the sink. The call returns `Stopped` if and
-    // only if the sink stopped the read.
-    //
-    // Each failure other than `NoMark` and `Undetermined` has one of three reasons: a request was
-    // refused, a request got no reply, or the sink stopped the read. The failure says which request
-    // was refused, or why a request got no reply.
     ensures read { IsRead (sink_kind P.tells S.takes) device.now after
         (sink_ends peer.old sink.old) (sink_ends peer.new sink.new) result }
-    // The call sends MTOFFL only after the sink got each record and the mark, accepted each record,
-    // and completed the volume. The clause `read` implies this promise.
+    // The clause `read` implies this.
     ensures kept { IsTakenAwayOnlyIfKept (sink_kind P.tells S.takes) device.now after
         (sink_ends peer.old sink.old) (sink_ends peer.new sink.new) result }
 {
@@ -179,8 +123,6 @@ pub fn copy_volume<P: Peer, S: VolumeSink>(
     result
 }
 
-/// Makes all calls of reading a volume, over the open connection. `after` says what to do with the
-/// reel once its volume was read whole.
 fn go_through<P: Peer, S: VolumeSink>(
     tape: &mut RemoteTape,
     peer: &mut P,
@@ -197,7 +139,6 @@ fn go_through<P: Peer, S: VolumeSink>(
     conclude(tape, peer, after_for_count(after, records), records, sink)
 }
 
-/// Opens the device and rewinds it.
 fn begin<P: Peer>(tape: &mut RemoteTape, peer: &mut P, device: &[u8]) -> Result<(), ReadFault>
     requires { IsLine device.now }
     ensures { (after : AfterVolume) (completed : Bool) → IsBegun P.tells device.now after completed peer.old peer.new result }
@@ -207,8 +148,6 @@ fn begin<P: Peer>(tape: &mut RemoteTape, peer: &mut P, device: &[u8]) -> Result<
     Ok(())
 }
 
-/// Returns what to do with a reel of which this many records were read. If there were none, it
-/// stays and no mark is looked for.
 fn after_for_count(after: AfterVolume, records: u64) -> AfterVolume
     ensures { result ≡ spec.after_for_count after records }
 {
@@ -219,8 +158,6 @@ fn after_for_count(after: AfterVolume, records: u64) -> AfterVolume
     }
 }
 
-/// Ends the read after `records` records: looks for the mark unless `goes` is `Stay`, and closes
-/// the device.
 fn conclude<P: Peer, S: VolumeSink>(
     tape: &mut RemoteTape,
     peer: &mut P,
@@ -237,7 +174,6 @@ fn conclude<P: Peer, S: VolumeSink>(
     }
 }
 
-/// Closes the device at the end of a read.
 fn close<P: Peer>(tape: &mut RemoteTape, peer: &mut P) -> Result<(), ReadFault>
     ensures { IsDoneNext P.tells requests.PlainRequest.Close peer.old peer.new result }
 {
@@ -247,7 +183,6 @@ fn close<P: Peer>(tape: &mut RemoteTape, peer: &mut P) -> Result<(), ReadFault>
     }
 }
 
-/// Looks for the mark after `records` records, and ends the read with or without it.
 fn search<P: Peer, S: VolumeSink>(
     tape: &mut RemoteTape,
     peer: &mut P,
@@ -267,8 +202,6 @@ fn search<P: Peer, S: VolumeSink>(
     }
 }
 
-/// Gives the sink the mark and asks it to complete. Then takes the reel offline, if `goes` is
-/// `Offline`, and closes the device.
 fn conclude_at_mark<P: Peer, S: VolumeSink>(
     tape: &mut RemoteTape,
     peer: &mut P,
@@ -284,7 +217,6 @@ fn conclude_at_mark<P: Peer, S: VolumeSink>(
     close(tape, peer)
 }
 
-/// Closes the device after no mark was found. It ignores the reply, and fails with `fault`.
 fn close_unmarked<P: Peer>(
     tape: &mut RemoteTape,
     peer: &mut P,
@@ -296,7 +228,6 @@ fn close_unmarked<P: Peer>(
     Err(fault)
 }
 
-/// Takes the reel offline if `goes` is `Offline`.
 fn take_away<P: Peer>(
     tape: &mut RemoteTape,
     peer: &mut P,
@@ -313,8 +244,7 @@ fn take_away<P: Peer>(
     }
 }
 
-/// Gives the sink the label and the records after it, until a read returns nothing. Returns the
-/// number of records, the label included; 0 if there is no label.
+/// Returns the number of records, the label included.
 fn give_volume<P: Peer, S: VolumeSink>(
     tape: &mut RemoteTape,
     peer: &mut P,
@@ -333,8 +263,6 @@ fn give_volume<P: Peer, S: VolumeSink>(
     }
 }
 
-/// Gives the sink record after record until a read returns nothing. Returns the number of records
-/// that were read, the label included.
 fn give_records<P: Peer, S: VolumeSink>(
     tape: &mut RemoteTape,
     peer: &mut P,

@@ -1,2 +1,2 @@
--- Status: the exit status of `rdump read`.
+-- Status: the exit status of `rdump read` and of `rdump fetch`, if they fail.
 pub mod Status

@@ -1,8 +1,11 @@
--- The exit status of `rdump read`.
-use Rattle.std.specs.Prelude.{◌≡◌, ◌⊎◌}
-use Rattle.exit_status.specs.declared.status.ExitStatus.{ExitStatus}
-use Rattle.exit_status.specs.declared.status.ExitStatus.TheVariants.{Success, Abnormal}
+-- The exit status of `rdump read` and of `rdump fetch`, if they fail.
+use Rattle.console.specs.declared.status.ExitStatus.{ExitStatus}
+use Rattle.console.specs.declared.status.ExitStatus.TheVariants.{Abnormal, StartupError}
+use Rattle.rdump_read.specs.declared.fault.ReelFault.{ReelFault}
+use Rattle.rdump_read.specs.declared.fault.ReelFault.TheVariants.{Start, NoCatalog}
 
--- the status of `rdump read`, once its file is open
-abbrev pub IsReadStatus : ExitStatus → Type 0
-IsReadStatus status = (status ≡ Success) ⊎ (status ≡ Abnormal)
+-- a fault before a reel is read has another status than one after that
+abbrev pub status_of : ReelFault → ExitStatus
+status_of (Start path error) = StartupError
+status_of (NoCatalog path fault) = StartupError
+status_of fault = Abnormal

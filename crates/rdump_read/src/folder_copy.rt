@@ -8,11 +8,11 @@ use rdump_system::ClientSystem;
 use std::alloc::Global;
 use std::io::{self, ErrorKind, Write};
 
-/// The most bytes of the name of a copy: that of its part has six more, and a file system takes 255.
+/// The most bytes of a copy's name: that of its part has six more, and a file system takes 255.
 const MOST_NAME: usize = 249;
 
-/// The copies of reels in a folder: one file for each reel. What the files contain is not known to
-/// contracts. `T` is the terminal that shows the progress.
+/// The copies of reels in a folder: one file for each reel. Contracts do not know what the files
+/// contain. `T` is the terminal that shows the progress.
 #[derive(Drop)]
 pub(crate) struct FolderCopy<'a, R: ClientSystem, T: Write + Drop> {
     rt: &'a R,
@@ -23,7 +23,6 @@ pub(crate) struct FolderCopy<'a, R: ClientSystem, T: Write + Drop> {
 }
 
 impl<'a, R: ClientSystem, T: Write + Drop> FolderCopy<'a, R, T> {
-    /// Makes one of this folder, in which nothing is copied yet.
     pub(crate) fn new(rt: &'a R, folder: &'a str, terminal: Option<T>) -> Self {
         FolderCopy {
             rt,
@@ -39,7 +38,14 @@ impl<'a, R: ClientSystem, T: Write + Drop> FolderCopy<'a, R, T> {
         self.paths.as_ref()
     }
 
-    /// Opens the part of the copy of the volume that has this label.
+    /// Returns the path of the copy that was begun last, or that of the folder if none was.
+    pub(crate) fn path(&self) -> &str {
+        match &self.paths {
+            Some(paths) => paths.copy.as_str(),
+            None => self.folder,
+        }
+    }
+
     fn open(&mut self, label: &VolumeLabel) -> io::Result<()> {
         self.paths = None;
         let alloc = self.rt.alloc();
@@ -99,7 +105,7 @@ impl<'a, R: ClientSystem, T: Write + Drop> CopyFile for FolderCopy<'a, R, T> {
         sync_folder(self.rt, self.folder)
     }
 
-    /// Closes the part, which releases its lock, and clears the line of progress.
+    /// Closes the part, which releases its lock.
     fn leave(&mut self) {
         self.part = None;
         if let Some(progress) = &mut self.progress {
@@ -108,7 +114,6 @@ impl<'a, R: ClientSystem, T: Write + Drop> CopyFile for FolderCopy<'a, R, T> {
     }
 }
 
-/// Returns the name of the copy of the volume that has this label.
 fn name_of(alloc: Global, label: &VolumeLabel) -> io::Result<String> {
     let mut name = Vec::new(alloc);
     push_copy_name(&mut name, label)?;
@@ -118,9 +123,8 @@ fn name_of(alloc: Global, label: &VolumeLabel) -> io::Result<String> {
     }
 }
 
-/// Opens the part of a copy. Its errors have `its .part: ` in front.
-///
-/// Fails with `InvalidInput` if the name of the copy is too long.
+/// Opens the part of a copy. Fails with `InvalidInput` if the copy's name is too long. Errors of
+/// the part begin with `its .part: `.
 fn open_part<R: ClientSystem>(rt: &R, alloc: Global, paths: &CopyPaths) -> io::Result<Part> {
     let length = paths.name.len();
     if length > MOST_NAME {
@@ -133,8 +137,7 @@ fn open_part<R: ClientSystem>(rt: &R, alloc: Global, paths: &CopyPaths) -> io::R
     }
 }
 
-/// Returns an error of the part, with `its .part: ` in front of its text. If an allocation for that
-/// fails, returns that error.
+/// Puts `its .part: ` in front. If an allocation for that fails, returns that error.
 fn of_part(alloc: Global, error: io::Error) -> io::Error {
     match format!(in alloc; "its .part: {error}") {
         Ok(text) => io::Error::new(error.kind(), text.as_str()),
@@ -142,7 +145,6 @@ fn of_part(alloc: Global, error: io::Error) -> io::Error {
     }
 }
 
-/// Returns the error if no copy was begun.
 fn not_begun() -> io::Error {
     io::Error::from(ErrorKind::Other)
 }

@@ -1,11 +1,12 @@
 //! The commands that read reels: `rdump read` and `rdump fetch`.
 //!
 //! `run_read` reads the first volume of a drive back into a file. `run_fetch` copies the reels of a
-//! stack into record files of a folder, each by `rdump_fetch::fetch_reel`, and the server moves each
+//! stack into record files of a folder, each by `rdump_fetch::fetch_reel`. The server moves each
 //! reel to the bin once its copy is kept.
 #![tactic(auto)]
 
-mod cause;
+mod copy_line;
+mod fault;
 mod fetch_command;
 mod folder_copy;
 mod front;
@@ -13,10 +14,8 @@ mod named;
 mod out_file;
 mod part;
 mod progress;
-mod read_catalog;
 mod read_command;
 mod read_sink;
-mod report;
 
 pub use fetch_command::run_fetch;
 pub use read_command::run_read;

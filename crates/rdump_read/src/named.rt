@@ -18,7 +18,6 @@ pub(crate) fn lock(file: &File) -> io::Result<()> {
     }
 }
 
-/// Returns the error if another run has a file.
 pub(crate) fn taken() -> io::Error {
     io::Error::new(ErrorKind::WouldBlock, "another run writes it")
 }

@@ -1,14 +1,13 @@
 //! The file into which a volume is read back.
 use crate::named::{MOST_TRIES, is_file, lock, sync_folder, taken};
-use rdump_files::named_file;
 use std::alloc::Global;
 use std::fs::{self, File, Metadata, OpenOptions};
 use std::io::{self, ErrorKind, Write};
 use std::os::unix::fs::FileTypeExt;
 use std::path::PathBuf;
 use std::rt::Files;
+use whole_files::named_file;
 
-/// The kinds of files.
 #[derive(Clone, Copy, PartialEq, Eq)]
 enum FileKind {
     /// A regular file.
@@ -19,8 +18,8 @@ enum FileKind {
     Stream,
 }
 
-/// The file into which a volume is read back. A regular file is locked, so that no other run writes
-/// or removes it meanwhile. Contracts do not know its contents.
+/// A regular file is locked, so that no other run writes or removes it meanwhile. Contracts do not
+/// know the contents.
 #[derive(Drop)]
 pub(crate) struct OutFile<'a, R> {
     rt: &'a R,
@@ -31,7 +30,7 @@ pub(crate) struct OutFile<'a, R> {
 }
 
 impl<'a, R: Files<File = File>> OutFile<'a, R> {
-    /// Opens the file at this path, and creates it if it does not exist. Its contents are unchanged.
+    /// Opens or creates the file at this path. Its contents are unchanged.
     ///
     /// Fails with the system's error, with `OutOfMemory`, or with `WouldBlock` if another run has
     /// it.
@@ -58,7 +57,7 @@ impl<'a, R: Files<File = File>> OutFile<'a, R> {
         Err(taken())
     }
 
-    /// Begins to write: removes the bytes of a regular file. Other files have nothing to remove.
+    /// Begins to write: removes the bytes of a regular file.
     pub(crate) fn begin(&mut self) -> io::Result<()> {
         if self.kind == FileKind::Plain {
             self.file.set_len(0)?;
@@ -67,14 +66,13 @@ impl<'a, R: Files<File = File>> OutFile<'a, R> {
         Ok(())
     }
 
-    /// Appends these bytes.
     pub(crate) fn append(&mut self, bytes: &[u8]) -> io::Result<()> {
         let mut file = &self.file;
         file.write_all(bytes)
     }
 
     /// Waits until everything written is on disk and, if this run created the file, also its name
-    /// in the folder. A pipe or a terminal has no disk, so there is nothing to wait for.
+    /// in the folder.
     pub(crate) fn sync(&self) -> io::Result<()> {
         if self.kind == FileKind::Stream {
             return Ok(());
@@ -99,7 +97,6 @@ impl<'a, R: Files<File = File>> OutFile<'a, R> {
     }
 }
 
-/// Returns the kind of the file that has this metadata.
 fn kind_of(found: &Metadata) -> FileKind {
     if found.is_file() {
         FileKind::Plain
@@ -110,7 +107,6 @@ fn kind_of(found: &Metadata) -> FileKind {
     }
 }
 
-/// Returns the folder of the file at this path.
 fn folder_of(path: &PathBuf) -> &str {
     match path.as_path().parent() {
         Some(folder) if !folder.as_str().is_empty() => folder.as_str(),
@@ -121,8 +117,7 @@ fn folder_of(path: &PathBuf) -> &str {
 /// A file that was opened, and its path if this run created it.
 type Opened = (File, Option<PathBuf>);
 
-/// Opens the file at this path for writing, and creates it if it does not exist. Returns none if
-/// another run created it meanwhile.
+/// Returns none if another run created the file meanwhile.
 fn open_or_make<R: Files<File = File>>(
     rt: &R,
     alloc: Global,

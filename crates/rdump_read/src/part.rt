@@ -1,30 +1,26 @@
 //! The file of a copy that is made: `.NAME.part` in the folder, until it gets its name.
 use crate::named::{MOST_TRIES, is_file, lock, taken};
 use file_medium::FileMedium;
-use named_files::no_plain_file;
 use std::alloc::Global;
 use std::fs::{self, File, Metadata, OpenOptions};
 use std::io::{self, ErrorKind};
 use std::os::unix::fs::{FileExt, MetadataExt};
 use std::rt::Files;
 use tape::Medium;
+use whole_files::no_plain_file;
 
 /// How many bytes of two files are compared at once.
 const PIECE: usize = 16384;
 
-/// The paths of a copy.
+/// The name of a copy, and the paths of the copy and its part.
 #[derive(Drop)]
 pub(crate) struct CopyPaths {
-    /// The name of the copy.
     pub name: String,
-    /// The path of the copy.
     pub copy: String,
-    /// The path of its part.
     pub part: String,
 }
 
 impl CopyPaths {
-    /// Makes the paths of the copy of this name in a folder.
     pub(crate) fn new(alloc: Global, folder: &str, name: String) -> io::Result<CopyPaths> {
         let between = if folder.ends_with("/") { "" } else { "/" };
         let copy = format!(in alloc; "{folder}{between}{name}")?;
@@ -33,17 +29,17 @@ impl CopyPaths {
     }
 }
 
-/// A copy that is made: its part, which is open and locked, so that no other run writes it
-/// meanwhile. Contracts do not know its contents.
+/// An open part, which is locked, so that no other run writes it meanwhile. Contracts do not know
+/// its contents.
 #[derive(Drop)]
 pub(crate) struct Part {
     medium: FileMedium,
 }
 
 impl Part {
-    /// Opens and locks the part at this path, and empties it. If there is none, creates it. If the
-    /// file has another name too, as after a run that was stopped while it gave the copy its name,
-    /// the part is removed and created anew.
+    /// Opens or creates the part at this path, locks it, and empties it. If the file has another
+    /// name too, as after a run that was stopped while it gave the copy its name, the part is
+    /// removed and created anew.
     ///
     /// Fails with the system's error, with `InvalidInput` if something other than a regular file
     /// has the name, or with `WouldBlock` if another run has the part.
@@ -77,7 +73,6 @@ impl Part {
         }
     }
 
-    /// Waits until the bytes of the part are on the disk.
     pub(crate) fn sync(&self) -> io::Result<()> {
         self.medium.sync()
     }
@@ -120,10 +115,8 @@ impl Part {
     }
 }
 
-/// Opens the part at this path, or creates it. Returns none if it went or came meanwhile.
-///
-/// Fails with `InvalidInput` if something other than a regular file is there. A link is not
-/// followed.
+/// Returns none if the part went or came meanwhile. Fails with `InvalidInput` if something other
+/// than a regular file is there. A link is not followed.
 fn open_or_create<R: Files<File = File>>(rt: &R, path: &str) -> io::Result<Option<File>> {
     let mut options = OpenOptions::new();
     options.read(true).append(true);
@@ -142,7 +135,6 @@ fn open_or_create<R: Files<File = File>>(rt: &R, path: &str) -> io::Result<Optio
     }
 }
 
-/// Whether two files have the same bytes.
 fn have_same_bytes(one: &File, other: &File) -> io::Result<bool> {
     let length = one.metadata()?.len();
     if other.metadata()?.len() != length {
@@ -167,8 +159,7 @@ fn has_name<R: Files<File = File>>(rt: &R, path: &str, file: &File) -> io::Resul
     is_file(fs::symlink_metadata(rt, path), file)
 }
 
-/// Returns the metadata of what is at this path, without following a link. Returns none if nothing
-/// is.
+/// Does not follow a link. Returns none if nothing is at this path.
 fn found_at<R: Files<File = File>>(rt: &R, path: &str) -> io::Result<Option<Metadata>> {
     match fs::symlink_metadata(rt, path) {
         Ok(found) => Ok(Some(found)),
@@ -177,7 +168,6 @@ fn found_at<R: Files<File = File>>(rt: &R, path: &str) -> io::Result<Option<Meta
     }
 }
 
-/// Returns the error if another file has the name of this one by now.
 fn exchanged() -> io::Error {
     io::Error::new(ErrorKind::InvalidInput, "another file took its place")
 }

@@ -1,11 +1,11 @@
 //! Shows how far a reel is read.
-use printable::{LiveLine, LiveText};
+use console::{LiveLine, LiveText};
 use std::fmt::Write as _;
 use std::io::Write;
 use std::time::Clock;
 
-/// A line on a terminal that shows the volume, the block and the bytes a second of a read. It is
-/// updated at most ten times a second. For a reel without a label it shows no volume.
+/// A line on a terminal that shows the volume, the block and the bytes a second. It is updated at
+/// most ten times a second. For a reel without a label it shows no volume.
 #[derive(Drop)]
 pub(crate) struct VolumeProgress<'a, R: Clock, W: Write> {
     line: LiveLine<'a, R, W>,
@@ -14,7 +14,6 @@ pub(crate) struct VolumeProgress<'a, R: Clock, W: Write> {
 }
 
 impl<'a, R: Clock, W: Write> VolumeProgress<'a, R, W> {
-    /// Makes a line at this terminal, with nothing shown yet.
     pub(crate) fn new(clock: &'a R, terminal: W) -> Self {
         VolumeProgress {
             line: LiveLine::new(clock, terminal),
@@ -30,8 +29,7 @@ impl<'a, R: Clock, W: Write> VolumeProgress<'a, R, W> {
         self.line.begin();
     }
 
-    /// Shows a record that is written next. It has `bytes` bytes. The first record is not shown:
-    /// block 1 follows it.
+    /// Shows the record that is written next. The first record is not shown: block 1 follows it.
     pub(crate) fn show(&mut self, bytes: usize) {
         let number = self.records;
         self.records = number.saturating_add(1);
@@ -49,7 +47,6 @@ impl<'a, R: Clock, W: Write> VolumeProgress<'a, R, W> {
         self.line.add(bytes);
     }
 
-    /// Clears the line.
     pub(crate) fn clear(&mut self) {
         self.line.clear();
     }

@@ -1,46 +1,31 @@
 //! What `rdump read` does with a volume that is read.
+use crate::fault::ReelFault;
 use crate::out_file::OutFile;
 use crate::progress::VolumeProgress;
+use console::PlainBytes;
 use dump_run::VolumeLabel;
-use printable::PlainBytes;
-use rdump_net::{SinkStopped, Verdict, VolumeSink};
+use rdump_net::{ReadFault, SinkStopped, Verdict, VolumeSink};
 use rdump_system::{ClientSystem, may_be_terminal};
 use rmt_wire::find_byte;
+use std::fmt::{self, Display, Formatter};
 use std::io::{self, Write};
 
-/// The first record of a reel.
 #[derive(Clone, Copy, PartialEq, Eq)]
 pub(crate) enum FirstRecord {
-    /// A label of a volume.
     Label,
-    /// Any other record.
     Other,
-}
-
-/// Why a sink stopped the read.
-#[derive(Clone, Copy)]
-pub(crate) enum ReadStop {
-    /// The text of the first record could not be printed.
-    Unprinted,
-    /// The file could not be emptied or written.
-    File(io::Error),
 }
 
 /// How many blocks were written, and of how many bytes.
 #[derive(Clone, Copy)]
 pub(crate) struct BlockSizes {
-    /// How many blocks there are.
-    pub count: u64,
-    /// The bytes of the shortest block.
-    pub shortest: usize,
-    /// The bytes of the longest block, or 0 if there is none.
-    pub longest: usize,
-    /// The bytes of all blocks.
-    pub total: u64,
+    count: u64,
+    shortest: usize,
+    longest: usize,
+    total: u64,
 }
 
 impl BlockSizes {
-    /// The sizes of no blocks.
     const NONE: BlockSizes = BlockSizes {
         count: 0,
         shortest: usize::MAX,
@@ -48,7 +33,6 @@ impl BlockSizes {
         total: 0,
     };
 
-    /// Counts a block of `bytes` bytes.
     fn add(&mut self, bytes: usize) {
         self.count = self.count.saturating_add(1);
         self.shortest = self.shortest.min(bytes);
@@ -57,26 +41,48 @@ impl BlockSizes {
     }
 }
 
-/// What a volume is read into. Standard output gets the text of the first record, and the file gets
-/// the blocks. `T` is the terminal that shows the progress.
+impl Display for BlockSizes {
+    fn fmt<W: fmt::Write>(&self, f: &mut Formatter<W>) -> fmt::Result {
+        let BlockSizes {
+            count,
+            shortest,
+            longest,
+            total,
+        } = *self;
+        match count {
+            0 => f.write_str("0 blocks"),
+            1 => write!(f, "1 block of {total} bytes"),
+            _ if shortest == longest => write!(f, "{count} blocks of {longest} bytes"),
+            _ => write!(
+                f,
+                "{count} blocks of {shortest} to {longest} bytes, {total} bytes in all"
+            ),
+        }
+    }
+}
+
+/// Standard output gets the text of the first record, and the file gets the blocks. `T` is the
+/// terminal that shows the progress.
 ///
 /// If standard output may be a terminal, control characters in a text that is not a label are
 /// printed as `?`. If the text cannot be printed, the file keeps its contents.
 #[derive(Drop)]
 pub(crate) struct ReadSink<'a, R: ClientSystem, T: Write + Drop> {
     rt: &'a R,
+    out: &'a str,
     file: OutFile<'a, R>,
     progress: Option<VolumeProgress<'a, R, T>>,
     first: Option<FirstRecord>,
     sizes: BlockSizes,
-    stop: Option<ReadStop>,
+    stop: Option<ReelFault<'a>>,
 }
 
 impl<'a, R: ClientSystem, T: Write + Drop> ReadSink<'a, R, T> {
-    /// Makes a sink for this file.
-    pub(crate) fn new(rt: &'a R, file: OutFile<'a, R>, terminal: Option<T>) -> Self {
+    /// Makes a sink for this file, whose path is `out`.
+    pub(crate) fn new(rt: &'a R, out: &'a str, file: OutFile<'a, R>, terminal: Option<T>) -> Self {
         ReadSink {
             rt,
+            out,
             file,
             progress: terminal.map(|it| VolumeProgress::new(rt, it)),
             first: None,
@@ -85,47 +91,46 @@ impl<'a, R: ClientSystem, T: Write + Drop> ReadSink<'a, R, T> {
         }
     }
 
-    /// Clears the line of progress.
     pub(crate) fn clear(&mut self) {
         if let Some(progress) = &mut self.progress {
             progress.clear();
         }
     }
 
-    /// Returns what the first record is. None if there was no record.
+    /// None if there was no record.
     pub(crate) fn first(&self) -> Option<FirstRecord> {
         self.first
     }
 
-    /// Returns how many blocks were written, and of how many bytes.
     pub(crate) fn sizes(&self) -> BlockSizes {
         self.sizes
     }
 
-    /// Returns why the sink stopped the read, if it did.
-    pub(crate) fn stop(&self) -> Option<ReadStop> {
-        self.stop
-    }
-
-    /// Empties the file.
     pub(crate) fn empty(&mut self) {
         if let Err(error) = self.file.begin() {
-            self.stop = Some(ReadStop::File(error));
+            self.stop = Some(ReelFault::File(self.out, error));
         }
     }
 
-    /// Syncs the file.
-    pub(crate) fn sync(&self) -> io::Result<()> {
-        self.file.sync()
+    /// Syncs the file, unless the sink stopped the read or the read failed.
+    pub(crate) fn finish(&self, read: Result<(), ReadFault>) -> Result<(), ReelFault<'a>> {
+        match (self.stop, read) {
+            (Some(stop), _) => Err(stop),
+            (None, Err(fault)) => Err(ReelFault::Unread(fault)),
+            (None, Ok(())) => match self.file.sync() {
+                Ok(()) => Ok(()),
+                Err(error) => Err(ReelFault::File(self.out, error)),
+            },
+        }
     }
 
-    /// Ends the read. Removes the file if this run created it and no read was answered.
+    /// Removes the file if this run created it and did not begin to write it.
     pub(crate) fn end(self) {
         self.file.end();
     }
 
-    /// Prints the text of a first record, and empties the file.
-    fn begin(&mut self, record: &[u8], label: Option<&VolumeLabel>) -> Result<(), ReadStop> {
+    /// Prints the text of a first record, and only then empties the file.
+    fn begin(&mut self, record: &[u8], label: Option<&VolumeLabel>) -> Result<(), ReelFault<'a>> {
         let text = text_of(record);
         let mut out = io::writer(self.rt);
         let printed = if label.is_none() && may_be_terminal(self.rt) {
@@ -134,16 +139,18 @@ impl<'a, R: ClientSystem, T: Write + Drop> ReadSink<'a, R, T> {
             out.write_all(text)
         };
         if printed.is_err() {
-            return Err(ReadStop::Unprinted);
+            return Err(ReelFault::Unwritten);
         }
-        self.file.begin().map_err(ReadStop::File)
+        match self.file.begin() {
+            Ok(()) => Ok(()),
+            Err(error) => Err(ReelFault::File(self.out, error)),
+        }
     }
 }
 
 impl<'a, R: ClientSystem, T: Write + Drop> VolumeSink for ReadSink<'a, R, T> {
     ghost takes = { λ _ _ _ _. Unit };
 
-    /// Prints the text of the record, and then empties the file.
     fn label(&mut self, record: &[u8]) -> Verdict {
         let label = VolumeLabel::read(record);
         self.first = match label {
@@ -168,7 +175,7 @@ impl<'a, R: ClientSystem, T: Write + Drop> VolumeSink for ReadSink<'a, R, T> {
             progress.show(bytes.len());
         }
         if let Err(error) = self.file.append(bytes) {
-            self.stop = Some(ReadStop::File(error));
+            self.stop = Some(ReelFault::File(self.out, error));
             return Err(SinkStopped);
         }
         self.sizes.add(bytes.len());

@@ -1,9 +1,8 @@
-//! The commands of `rdump` share this crate: the part of the runtime that the commands use, and the
-//! functions that print errors.
+//! The commands of `rdump` share this crate.
 //!
-//! `ClientSystem` is the part of the runtime that the commands use. `print_fault` and the functions
-//! `report` and `report_..` print on standard error what failed, and return the exit status.
-//! `may_be_terminal` checks whether standard output may be a terminal.
+//! `ClientSystem` is the part of the runtime that they use. `print_fault`, `report` and `report_..`
+//! print what failed, on standard error unless they say otherwise. They return the exit status,
+//! also if printing fails.
 #![tactic(auto)]
 
 mod fault;
@@ -11,7 +10,7 @@ mod system;
 mod terminal;
 
 pub use fault::{
-    NO_CATALOG, NO_DUMPDATES, print_fault, report, report_failed, report_failures, report_no_dates,
+    NO_CATALOG, NO_DUMPDATES, print_fault, report, report_failed, report_no_dates,
     report_no_memory, report_unwritten,
 };
 pub use system::ClientSystem;

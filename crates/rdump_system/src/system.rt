@@ -1,11 +1,10 @@
-//! The part of the runtime that the commands use.
+//! `ClientSystem`.
 use std::fs::File;
 use std::io::Input;
 use std::net::Net;
 use std::rt::{Clock, Env, Files};
 
-/// The part of the runtime that the commands use: memory, the arguments of the process, its
-/// streams, the clock, files and sockets.
+/// The part of the runtime that the commands use.
 pub trait ClientSystem: AllocGlobal
     + Clock
     + Env

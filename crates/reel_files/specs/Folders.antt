@@ -11,8 +11,9 @@ use Rattle.drives.specs.Calls.StacksCall.{Latch, LayBack, Move}
 use Rattle.drives.specs.declared.fault.DriveFault.{DriveFault}
 use Rattle.drives.specs.declared.fault.DriveFault.TheVariants.{NoReel, Device, OutOfMemory, NameTaken}
 
--- A drive: its name, the folder of its stack, and whether a reel is latched. `failed` is set if a
--- sync of that reel's file failed: how many times the file had been truncated to zero length then.
+-- A drive: its name, the folder of its stack, and whether a reel is latched. `failed` is the record
+-- of a failed sync of that reel's file, if there is one: how many times the file had been truncated
+-- to zero length then.
 pub record FolderRow : Type 0 where
   pub name : List ℕ
   pub folder : List ℕ
@@ -76,8 +77,8 @@ abbrev pub IsUntouched : FileCount → Type 0
 IsUntouched file = (file.failures ≡ 0) × (file.truncations ≡ 0) × (file.written ≡ false)
 
 -- A reel was latched where none was: at its beginning, with the capacity, and on an untouched file.
--- It fails with NoReel, if one is latched or none was found, and with OutOfMemory; both change
--- nothing. It fails with Device, which is counted.
+-- It can fail with NoReel, and if a reel is latched it does; this changes nothing. It can also fail
+-- with OutOfMemory, which changes nothing, and with Device, which is counted.
 abbrev pub IsFolderLatch : FolderLibrary → ℕ → Result (FileTape FileCount) DriveFault → FolderLibrary → Type 0
 IsFolderLatch old d (Ok reel) new =
     ((row_at old d).latched ≡ false) × (reel.offset ≡ 0) × (reel.capacity ≡ old.capacity) × IsUntouched reel.medium
@@ -87,7 +88,7 @@ IsFolderLatch old d (Err fault) new = ((row_at old d).latched ≡ false) × IsFo
 
 -- The latched reel was moved. No sync of its file has failed since it was last truncated to zero
 -- length. It fails with NameTaken, which changes nothing. It fails with Device, which is counted; a
--- sync that failed is recorded.
+-- failed sync may be recorded.
 abbrev pub IsFolderMove : {U : Type 0} → FolderLibrary → ℕ → FileCount → Result U DriveFault → FolderLibrary → Type 0
 IsFolderMove old d file (Ok done) new = ((row_at old d).latched ≡ true) × IsSyncable old d file × (new ≡ with_latched old d false)
 IsFolderMove old d file (Err Device) new = (new ≡ after_fault old) ⊎ (new ≡ after_fault (with_failed old d file.truncations))

@@ -1,7 +1,4 @@
 //! Drives whose reels are files in folders.
-//!
-//! A drive's latched reel is the first of its stack: it is in the drive until it is laid back or
-//! moved to the bin.
 
 ghost use Rattle.std.specs.Prelude.{◌≡◌, ◌≤◌, ◌<◌, ◌↔◌, false, IfOk, IfSome, IsSome, IsErr, IsErrAnd, MatchResult, None, map, length};
 ghost use Rattle.std.specs.IoError.{error_kind, raw_os_error};
@@ -35,15 +32,12 @@ use std::io::{self, ErrorKind};
 use std::marker::Model;
 use tape::FileReel;
 
-/// The end of the log line of an open that finds no reel on the stack.
 const NO_REEL: &str = ": put one into its folder";
 
-/// The name of a drive and the folder of its stack.
+/// The name of a drive and the path of its stack's folder.
 #[derive(Clone, Copy)]
 pub struct FolderDrive<'a> {
-    /// The name of the drive.
     pub name: &'a str,
-    /// The path of the folder that contains its reels as files.
     pub folder: &'a str,
 }
 
@@ -52,18 +46,16 @@ pub struct FolderDrive<'a> {
 pub struct FolderFault<'a> {
     /// The path of the folder, as it was given.
     pub folder: &'a str,
-    /// Why the folder cannot be used.
     pub reason: io::Error,
 }
 
 /// Drives whose reels are record files in folders, with a folder as the bin.
 ///
-/// A stack is the regular files of its folder, ordered by the bytes of their names. Folders and
-/// links in it are not reels. Each latch lists the folder again. The file of a latched reel is
-/// locked with the system's advisory lock.
+/// A stack is the regular files of its folder, ordered by the bytes of their names. Folders, links,
+/// and names that begin with a dot are not reels. Each latch lists the folder again, and locks the
+/// file with the system's advisory lock.
 ///
-/// All folders must be on one file system, since a move copies nothing: it makes a hard link and
-/// removes the old name. The contracts leave the contents of the folders unspecified.
+/// All folders must be on one file system, since a move copies nothing.
 #[derive(Drop)]
 pub struct FolderStacks<R: FolderSystem, L: Log + Drop> {
     rt: R,
@@ -85,11 +77,9 @@ impl<R: FolderSystem, L: Log + Drop> Model for FolderStacks<R, L> {
 }
 
 impl<R: FolderSystem> FolderStacks<R, NoLog> {
-    /// Returns the stacks of 1 to `DRIVE_LIMIT` given drives. Each drive has a name. `bin` is the
-    /// folder of the bin, and `capacity` is that of each reel in bytes. It reads no folder. If
-    /// several drives have the same name, the first is used.
-    ///
-    /// Fails only if an allocation fails.
+    /// Returns the stacks of 1 to `DRIVE_LIMIT` given drives. `bin` is the folder of the bin, and
+    /// `capacity` that of each reel in bytes. Reads no folder. If several drives have the same
+    /// name, the first is used. Fails only if an allocation fails.
     pub fn open(
         rt: R,
         drives: &[FolderDrive<'_>],
@@ -98,8 +88,6 @@ impl<R: FolderSystem> FolderStacks<R, NoLog> {
     ) -> Result<FolderStacks<R, NoLog>, AllocError>
         requires some { 1 ≤ length drives.now }
         requires few { length drives.now ≤ DRIVE_LIMIT }
-        // The drives of the new stacks have the given names and folders. No reel is latched, and no
-        // failure is counted. No contract says which files the folders contain.
         ensures drives { IfOk result (λ opened. opened
             ≡ folder_library (map (λ d. folder_row d.name.now d.folder.now false) drives.now) bin.now capacity 0) }
         ensures count { IfOk result (λ opened. length opened.rows ≡ length drives.now) }
@@ -109,8 +97,7 @@ impl<R: FolderSystem> FolderStacks<R, NoLog> {
 }
 
 impl<R: FolderSystem, L: Log + Drop> FolderStacks<R, L> {
-    /// Returns stacks that log what they do with their reels. Their log is `log`. All else is as in
-    /// `open`.
+    /// Like `open`, with a log of what is done with the reels.
     pub fn with_log(
         rt: R,
         drives: &[FolderDrive<'_>],
@@ -120,9 +107,6 @@ impl<R: FolderSystem, L: Log + Drop> FolderStacks<R, L> {
     ) -> Result<FolderStacks<R, L>, AllocError>
         requires some { 1 ≤ length drives.now }
         requires few { length drives.now ≤ DRIVE_LIMIT }
-        // The drives of the new stacks have the given names and folders, whatever the log is. No
-        // reel is latched, and no failure is counted. `open` calls `with_log` with a log that keeps
-        // nothing.
         ensures drives { IfOk result (λ opened. opened
             ≡ folder_library (map (λ d. folder_row d.name.now d.folder.now false) drives.now) bin.now capacity 0) }
         ensures count { IfOk result (λ opened. length opened.rows ≡ length drives.now) }
@@ -140,23 +124,20 @@ impl<R: FolderSystem, L: Log + Drop> FolderStacks<R, L> {
         })
     }
 
-    /// Returns the first folder path that is missing, is not a folder, cannot be read, or does not
-    /// permit new files. It checks the folders of the stacks in the order of the drives, then the
-    /// bin's. If the user owns the folder, the owner's permission to write counts. For another
-    /// user, that of the group or of others counts. For root, and for an unknown user, anybody's
-    /// counts.
+    /// Returns the first folder that is missing, is not a folder, cannot be read, or does not
+    /// permit new files. It checks the stacks' folders in order, then the bin's. The owner's
+    /// permission to write counts if the user owns the folder, and anybody's for root or an unknown
+    /// user. Otherwise that of the group or of others counts.
     ///
     /// It then returns the first drive's folder that
-    /// - is also the bin's,
-    /// - is on another file system than the bin's,
-    /// - is the folder of an earlier drive, even if the paths differ, or
-    /// - is on another mount than the bin's, or is on one mount with it that allows no writes.
+    /// - is also the bin's, or that of an earlier drive, even if the paths differ,
+    /// - is on another file system or mount than the bin's, or
+    /// - is on a mount that allows no writes.
     ///
     /// It changes nothing in the folders. If an allocation fails, the reason has the kind
     /// `OutOfMemory` and no error code of the system.
     pub fn find_fault(&self) -> Option<FolderFault<'_>>
-        // If `find_fault` returns a folder, this folder is the folder of a stack or the folder of
-        // the bin. Only tests show which faults `find_fault` finds: no clause says this.
+        // Only tests show which faults it finds.
         ensures { IfSome result (λ fault. IsFolderOf self.now fault.folder.now) }
     {
         let mut seen = Vec::new(self.rt.alloc());
@@ -173,8 +154,6 @@ impl<R: FolderSystem, L: Log + Drop> FolderStacks<R, L> {
         }
     }
 
-    /// Returns the first drive's folder that cannot be used along with the bin's folder or with
-    /// those of earlier drives.
     fn find_clash(&self, seen: &[FileId], bin: FileId) -> Option<FolderFault<'_>>
         ensures { IfSome result (λ fault. IsFolderOf self.now fault.folder.now) }
     {
@@ -193,9 +172,7 @@ impl<R: FolderSystem, L: Log + Drop> FolderStacks<R, L> {
         None
     }
 
-    /// Opens and locks the file of the reel to latch, and logs that, or the failure. Returns
-    /// `None`, and does not log that, if a reel is already latched or no regular file is in the
-    /// folder. An interrupted move is completed before, and this is logged.
+    /// Opens and locks the file of the reel to latch. Logs that, or the failure, but not `None`.
     fn find(&self, drive: usize) -> io::Result<Option<OpenedReel>>
         requires { drive < length self.now.rows }
         ensures free { MatchResult result (λ found. IsSome found → (row_at self.now drive).latched ≡ false) (λ _. (row_at self.now drive).latched ≡ false) }
@@ -216,9 +193,7 @@ impl<R: FolderSystem, L: Log + Drop> FolderStacks<R, L> {
         }
     }
 
-    /// Moves the latched reel's file to the bin, and logs the result. `medium` is the open file of
-    /// that reel. Fails with `NameTaken` if the bin has a reel with that name, and with `Device` if
-    /// the system fails.
+    /// Moves the latched reel's file to the bin, and logs the result.
     fn take_off(&mut self, drive: usize, medium: &FileMedium) -> Result<(), DriveFault>
         requires { drive < length self.old.rows }
         ensures { IsFolderMove self.old drive medium.now result self.new }
@@ -236,8 +211,7 @@ impl<R: FolderSystem, L: Log + Drop> FolderStacks<R, L> {
         }
     }
 
-    /// Returns why a reel could not be latched. Each failure except an allocation failure is
-    /// counted.
+    /// Counts a failed latch, unless an allocation failed.
     fn refuse(&mut self, error: io::Error) -> DriveFault
         ensures refused { IsFolderRefused self.old result self.new }
         ensures memory { result ≡ OutOfMemory ↔ (error_kind error ≡ ErrorKind.OutOfMemory) × (raw_os_error error ≡ None) }
@@ -249,7 +223,6 @@ impl<R: FolderSystem, L: Log + Drop> FolderStacks<R, L> {
         }
     }
 
-    /// Counts a failure of the device and returns `Device`.
     fn fail(&mut self) -> DriveFault
         ensures fault { result ≡ Device }
         ensures counted { self.new ≡ after_fault self.old }
@@ -260,28 +233,6 @@ impl<R: FolderSystem, L: Log + Drop> FolderStacks<R, L> {
 }
 
 impl<R: FolderSystem, L: Log + Drop> Stacks for FolderStacks<R, L> {
-    // drive, below, named, found: `drive` returns the number of the first drive with the given
-    // name.
-    //
-    // latch: A latch takes a reel into a drive only if the drive has no latched reel (see
-    // `IsFolderCall`). The latched reel is at its beginning, and has the capacity that was given to
-    // the stacks. The latched reel's `FileMedium` has counted no failed call and no cut to length
-    // 0. The `FileMedium`'s `is_written` returns false.
-    //
-    // latch: A latch that fails with `NoReel` or `OutOfMemory` counts no failure. Every other
-    // failed latch returns `Device` and counts a device failure.
-    //
-    // unlatch: After `unlatch` has laid a reel back on the stack, no reel is latched at the drive.
-    //
-    // offline: A move (a call of `offline`) fails if no reel is latched at the drive. A move also
-    // fails if a sync of the reel's file has failed after the file's last cut to length 0. If a
-    // move succeeds, no reel is latched at the drive afterwards. If a move fails, `offline` returns
-    // the reel to the caller. A move that fails because the bin has a reel with the same name
-    // (`NameTaken`) counts no failure. Every other failed move returns `Device` and counts a device
-    // failure.
-    //
-    // failures: `failures` returns how many device failures were counted.
-
     ghost use Rattle.reel_files.specs.Folders.{IsFolderCall};
 
     type Reel = FileReel<FileMedium>;
@@ -304,16 +255,15 @@ impl<R: FolderSystem, L: Log + Drop> Stacks for FolderStacks<R, L> {
         self.drives.iter().position(|chosen| chosen.is_named(name))
     }
 
-    /// Lists the folder of the stack, then opens and locks its first regular file. Names that begin
-    /// with a dot are not reels. The file is opened to read and to append. If the system only
-    /// allows reads, or the bin has another file with its name, it is opened read-only.
+    /// Opens and locks the first regular file of the stack's folder, to read and to append. If the
+    /// system only allows reads, or the bin has another file with its name, it is opened read-only.
     ///
     /// If the bin has this same file, its move was interrupted. Its name in the stack is removed
     /// then, and the next file is latched.
     ///
-    /// Fails with `NoReel`, with `OutOfMemory`, and with `Device`. `Device` is also returned if
+    /// Fails with `NoReel`, `OutOfMemory` and `Device`. `Device` is also returned if
     /// - such a move cannot be finished, or 100 of them were finished in this latch,
-    /// - any other name in the folder is not UTF-8,
+    /// - a name in the folder is not UTF-8 and does not begin with a dot,
     /// - another handle has locked the file, or
     /// - in each of 100 listings a name was gone, or the path led to another file than was listed.
     fn latch(&mut self, drive: usize) -> Result<FileReel<FileMedium>, DriveFault> {
@@ -329,10 +279,8 @@ impl<R: FolderSystem, L: Log + Drop> Stacks for FolderStacks<R, L> {
         }
     }
 
-    /// Syncs the file if it was written to or truncated since the latch, even if that failed. Then
-    /// closes the file, which releases its lock. If the sync fails, or one has failed since the
-    /// file was last truncated to zero length, this is logged but not counted. If no reel is
-    /// latched, it only closes the file.
+    /// Syncs the file as `sync_at_close` does, if a reel is latched. A failure is logged but not
+    /// counted. Then closes the file, which releases its lock.
     fn unlatch(&mut self, drive: usize, reel: FileReel<FileMedium>) {
         let chosen = &mut self.drives[drive];
         let report = chosen.close(&self.rt, self.bin.as_str(), reel.medium());
@@ -342,19 +290,18 @@ impl<R: FolderSystem, L: Log + Drop> Stacks for FolderStacks<R, L> {
         }
     }
 
-    /// Syncs the file and locks the bin's folder. Then a hard link, which never replaces anything,
-    /// gives the file its name in the bin, and the lock is released. After that the bin's folder is
-    /// synced, the name in the stack is removed, and the stack's folder is synced before this
-    /// returns. If the stack's folder cannot be synced, the file is moved all the same. On a file
-    /// system without hard links, the file is renamed. It allocates nothing, and never fails with
-    /// `OutOfMemory`.
+    /// Syncs the file. Then a hard link, which never replaces anything, gives it its name in the
+    /// bin, under the lock of the bin's folder. Then the bin's folder is synced, the name in the
+    /// stack is removed, and the stack's folder is synced. If this last sync fails, the file is
+    /// moved all the same. On a file system without hard links, the file is renamed. Allocates
+    /// nothing.
     ///
     /// Fails with `NameTaken` if the bin has that name, and with `Device`. `Device` is also
     /// returned if
     /// - no reel is latched,
-    /// - others hold the lock of the bin's folder for about a second,
+    /// - others hold the lock for about a second,
     /// - the name in the stack now belongs to another file than was latched,
-    /// - a sync of the file has failed since it was last truncated to zero length, or
+    /// - a sync of the file has failed since it was last cut to length 0, or
     /// - the bin's folder cannot be synced, and the move could be undone.
     fn offline(
         &mut self,
@@ -387,7 +334,6 @@ impl<R: FolderSystem, L: Log + Drop> Stacks for FolderStacks<R, L> {
     ghost sized = { λ _ _ told. absurd told };
 }
 
-/// Returns the medium of an opened file, which is read-only or may be written to.
 fn medium_of(file: File, is_read_only: bool) -> FileMedium
     ensures { IsUntouched result }
 {
@@ -398,7 +344,6 @@ fn medium_of(file: File, is_read_only: bool) -> FileMedium
     }
 }
 
-/// Returns the states of the drives, with no reel latched.
 fn drive_states_of(
     alloc: Global,
     drives: &[FolderDrive<'_>],

@@ -1,13 +1,12 @@
 //! The log of drives in folders, in lines.
 
-/// Receives the lines that describe what is done with reels in folders.
+/// Receives lines about reels in folders.
 pub trait Log {
     /// Logs a line, which must not contain a line feed. The contract promises nothing: a line that
     /// cannot be written is dropped.
     fn note(&self, line: &str);
 
-    /// Logs a line that describes a failure. The line must not contain a line feed. A log may mark
-    /// these lines.
+    /// Like `note`, for a line that describes a failure. A log may mark such lines.
     fn warn(&self, line: &str) {
         self.note(line);
     }

@@ -1,6 +1,6 @@
 -- A row of the table. Public contracts cite it.
 use Rattle.std.specs.Prelude.{◌≡◌, ◌⊎◌, ℕ, Bool, true, false, List, [], ◌++◌, Option, Some, None}
-use Rattle.printable.specs.Printing.{printable}
+use Rattle.console.specs.Printing.{printable}
 use Rattle.refusals.specs.declared.request.TapeRequest.{TapeRequest}
 use Rattle.refusals.specs.declared.row.Row.{Row}
 

@@ -7,16 +7,16 @@ ghost use Rattle.refusals.specs.Refusal.{refusal_text};
 use crate::request::TapeRequest;
 use crate::row::Row;
 use crate::table::find_row;
-use printable::plain;
+use console::plain;
 use std::fmt::{self, Display, Formatter, Write};
 use std::io;
 
 /// The refusal of a request by a server. It prints what the error means and what to do, in the
-/// words of the table. If the table has no row for it, it prints the system's text for the number.
-/// Control characters in the name of the drive are printed as `?`. Printing allocates nothing.
+/// words of the table, or without a row the system's text for the number. Control characters in the
+/// drive's name are printed as `?`. Printing allocates nothing.
 #[derive(Clone, Copy)]
 pub struct Refusal<'a> {
-    /// The row of the table, if it has one.
+    /// The row of the table, if there is one.
     pub row: Option<Row>,
     /// The error number.
     pub number: u32,
@@ -25,11 +25,8 @@ pub struct Refusal<'a> {
 }
 
 impl<'a> Refusal<'a> {
-    /// Makes the refusal of the request `asked` with this number. If it is not known which request
-    /// was refused, it has no row.
+    /// Makes the refusal of the request `asked` with this error number.
     pub fn new(asked: TapeRequest, number: u32, device: &'a str) -> Refusal<'a>
-        // The refusal has the given number and the given name of the drive. If the refusal has a
-        // row, this row is for the given number, and for the given request or for each request.
         ensures fits { IfSome result.row (IsRowOf asked number) }
         ensures number { result.number ≡ number }
         ensures device { result.device.now ≡ device.now }
@@ -43,9 +40,6 @@ impl<'a> Refusal<'a> {
 }
 
 impl Display for Refusal<'_> {
-    // output: A `Refusal` that has a row prints the text of the row. If this text names the drive,
-    // the name is printed as `printable::plain` prints it.
-
     ghost output = { refusal_text };
 
     fn fmt<W: Write>(&self, f: &mut Formatter<W>) -> fmt::Result {
@@ -56,7 +50,6 @@ impl Display for Refusal<'_> {
     }
 }
 
-/// Writes the text of a row, with the name of this drive.
 fn write_row<W: Write>(row: &Row, device: &str, f: &mut Formatter<W>) -> fmt::Result
     ensures { WritesOnOk W.write_str_gives f.old result (row_text row.now device.now) f.new }
 {
@@ -65,7 +58,6 @@ fn write_row<W: Write>(row: &Row, device: &str, f: &mut Formatter<W>) -> fmt::Re
     f.write_str(row.after)
 }
 
-/// Writes the name of this drive, if a row names the drive.
 fn write_drive<W: Write>(names_drive: bool, device: &str, f: &mut Formatter<W>) -> fmt::Result
     ensures { WritesOnOk W.write_str_gives f.old result (drive_text names_drive device.now) f.new }
 {

@@ -6,7 +6,7 @@ use rmt_wire::find_byte;
 use rmt_wire::mtio::{MTBSF, MTBSR, MTFSF, MTFSR, MTOFFL, MTREW, MTWEOF};
 use thiserror::Error;
 
-/// The greatest number of bytes that an older server takes in a record.
+/// The most bytes that an older server takes in a record.
 const OLDER_LIMIT: usize = 65536;
 
 /// A request that a server may refuse.
@@ -27,7 +27,7 @@ pub enum TapeRequest {
     /// The write of a record, which is a label or a block.
     #[error("write")]
     Write,
-    /// The write of a block that older servers do not take, because it is too long.
+    /// The write of a block that is too long for older servers.
     #[error("write")]
     LongWrite,
     /// The operation that writes marks.
@@ -44,12 +44,11 @@ pub enum TapeRequest {
     Close,
 }
 
-/// Returns which request these bytes are, if they are one whole request.
+/// Returns which request these bytes are, if they are one whole request. The first byte decides,
+/// and of an operation the second. A write is a `LongWrite` if more than 65,536 bytes follow its
+/// first line feed.
 #[tactic(auto, unfolding(crate::specs::Request::request_in, crate::specs::Request::letter_in))]
 pub fn request_of(bytes: &[u8]) -> Option<TapeRequest>
-    // The first byte decides which request the bytes are. If they are an operation, the second byte
-    // decides which one. A write is a `LongWrite` if more than 65,536 bytes follow its first line
-    // feed.
     ensures { result ≡ request_in bytes.now }
 {
     match bytes {
@@ -72,7 +71,6 @@ fn write_of(rest: &[u8]) -> TapeRequest
     }
 }
 
-/// Returns which operation begins with this digit.
 fn operation_of(digit: u8) -> TapeRequest
     ensures { result ≡ operation_in digit }
 {

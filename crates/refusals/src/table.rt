@@ -172,14 +172,12 @@ static ROWS: [Row; 22] = [
     },
 ];
 
-/// Returns the row for the refusal of a request with this number, if the table has one.
 pub(crate) fn find_row(asked: TapeRequest, number: u32) -> Option<Row>
     ensures { IfSome result (IsRowOf asked number) }
 {
     first_of(&ROWS, asked, number)
 }
 
-/// Returns the first of these rows that is for this request and number.
 fn first_of(rows: &[Row], asked: TapeRequest, number: u32) -> Option<Row>
     ensures { IfSome result (IsRowOf asked number) }
 {
@@ -191,7 +189,6 @@ fn first_of(rows: &[Row], asked: TapeRequest, number: u32) -> Option<Row>
     None
 }
 
-/// Whether a row with this request is for the request `asked`.
 fn is_for(row: Option<TapeRequest>, asked: TapeRequest) -> bool
     ensures { IsTrue result → IsAskedFor row asked }
 {

@@ -1,6 +1,7 @@
 -- A request to a peer, and its reply. A peer is the far end of a connection: what is sent over it
 -- goes through that connection. `p` and `p'` are the peer before and after, and `tells` relates a
--- peer to what passed so far. Public contracts cite it.
+-- peer to what passed so far. A plain value is what contracts use for a value that the code has in
+-- memory. Public contracts cite it.
 use Rattle.std.specs.Prelude.{◌≡◌, ◌≢◌, ◌⊎◌, ◌≤◌, ◌<◌, ◌+◌, ◌-◌, ◌^◌, ℕ, false, List, [], ◌∷◌, ◌++◌, map, length, take, Option, Some, None, Result, Ok, Err}
 use Rattle.rmt_wire.specs.declared.limits.TheConstants.{READER_LIMIT}
 use Rattle.rmt_wire.specs.Lent.{plain_reply}

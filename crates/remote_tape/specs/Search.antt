@@ -83,7 +83,8 @@ IsMarkFound next replies = (number : ℕ) × HasReply next replies (Op MTFSF 1) 
 abbrev pub IsMarkMissing : (List PlainReply → Option PlainRequest) → List PlainReply → Type 0
 IsMarkMissing next replies = (number : ℕ) × HasReply next replies (Op MTBSR 1) (Done number)
 
--- a refusal, or a rewind after which there are too many records for one request
+-- a reply that can stop the search: a refusal, or that of a rewind that was done, after which the
+-- records can be too many for one request; it did stop the search if the close is next
 abbrev pub StopsTheSearch : PlainRequest → PlainReply → Type 0
 StopsTheSearch request (Done n) = request ≡ Op MTREW 1
 StopsTheSearch request (Error n text) = Unit {0}

@@ -15,7 +15,7 @@ pub enum CallFault {
     /// The connection ended before the whole reply came.
     #[error("the connection ended")]
     ConnectionEnded,
-    /// The bytes that came are no reply to the request, or more than one reply.
+    /// The bytes that came are no reply to the request, or more than one.
     #[error("no reply by the protocol")]
     Botched,
     /// An allocation for the request or its reply failed.
@@ -28,14 +28,13 @@ pub enum CallFault {
 pub enum TapeCause {
     /// The server refused it with the error of this number.
     Refused(u32),
-    /// It got no reply, for this reason. No connection could be made for it, or one ended.
+    /// It got no reply.
     NoReply(CallFault),
 }
 
 impl TapeCause {
-    /// Returns whether the server refused the request with the error of this number.
+    /// Returns whether the server refused the request with this error.
     pub fn is_refused_with(self, errno: u32) -> bool
-        // Returns true if and only if the cause is a refusal with the given error number.
         ensures { result ≡ is_refused_with errno self }
     {
         match self {
@@ -48,16 +47,13 @@ impl TapeCause {
 /// A request to a tape that failed.
 #[derive(Clone, Copy, Debug, PartialEq, Eq)]
 pub struct TapeFault {
-    /// The request.
     pub request: TapeRequest,
-    /// Why it failed.
     pub cause: TapeCause,
 }
 
 impl TapeFault {
-    /// Returns the fault of an open that was not sent, for this reason.
+    /// Returns the fault of an open that was not sent.
     pub fn unopened(why: CallFault) -> TapeFault
-        // The fault names the open, and has the given reason.
         ensures request { result.request ≡ named.Open }
         ensures cause { result.cause ≡ causes.NoReply why }
     {
@@ -77,15 +73,12 @@ impl Display for TapeFault {
     }
 }
 
-/// Prints why a request failed, and after a refusal what that means and what to do.
+/// Prints why a request failed, and what to do after a refusal.
 #[derive(Clone, Copy)]
 pub struct FaultReport<'a> {
-    /// The request that failed.
     pub fault: TapeFault,
-    /// The name of the drive.
     pub device: &'a str,
-    /// The system's error, if the connection failed with one. It is printed in place of a fault that
-    /// says only that the connection ended.
+    /// The system's error, if there is one. It is printed in place of `ConnectionEnded`.
     pub failure: Option<&'a io::Error>,
 }
 

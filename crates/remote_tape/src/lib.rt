@@ -1,18 +1,13 @@
-//! Talks to a tape drive over a connection: one request at a time, each after the reply to the one
-//! before.
+//! Talks to a tape drive over a connection, one request at a time.
 //!
-//! `Peer` is the far end of a connection. A `RemoteTape` sends requests to a peer: open, rewind,
-//! space, read, offline, close. It lends the records that it reads from its own buffer.
-//! `find_mark` finds out whether a mark follows the records of a reel.
-//!
-//! A `TapeFault` names the request that failed and its cause, and `FaultReport` prints it with what
-//! it means for a drive.
+//! A `RemoteTape` sends requests to a `Peer`, and lends the records that it reads. `find_mark`
+//! finds out whether a mark follows the records of a reel.
 //!
 //! # Contracts
 //!
-//! A *peer* is the far end of a connection. The peer's *log* lists what passed over the peer's
-//! connections, in order. The log is *known* if the peer's contract says what the log contains.
-//! Promises about what passes over a connection hold only if the log is known.
+//! A *peer* is the far end of a connection. Its *log* lists what passed over its connections, in
+//! order. The log is *known* if the peer's contract says what it contains. Promises about what
+//! passes hold only then.
 //!
 //! A request *fails* if the server refuses it with an error, or if it gets no reply.
 #![tactic(auto)]

@@ -1,4 +1,4 @@
-//! Whether a mark follows the records of a reel.
+//! A search for a mark.
 ghost use Rattle.std.specs.Prelude.{◌≡◌, ◌≤◌};
 ghost use Rattle.rmt_wire.specs.declared.limits.TheConstants.{NUMBER_LIMIT};
 ghost use Rattle.remote_tape.specs.Search as spec;
@@ -12,28 +12,26 @@ use rmt_wire::NUMBER_LIMIT;
 use rmt_wire::errno::EIO;
 use rmt_wire::mtio::{MTBSR, MTFSF, MTFSR};
 
-/// What a search for the mark behind the records of a reel found.
+/// What a search for a mark found.
 #[derive(Clone, Copy, Debug, PartialEq, Eq)]
 pub enum MarkSearch {
-    /// A mark follows the records. The drive is at the place right behind it.
+    /// A mark follows. The drive is right behind it.
     Found,
-    /// No mark follows: the records reach to the end of the reel.
+    /// The records reach to the end of the reel.
     Missing,
-    /// It cannot be told: this request of the search was refused with the error of this number,
-    /// which may be a fault of the device.
+    /// It cannot be told: this request was refused with this error.
     Refused { request: TapeRequest, number: u32 },
-    /// It cannot be told: the reel has more records than one request can space over.
+    /// It cannot be told: one request cannot space over so many records.
     TooManyRecords,
 }
 
-/// Finds out whether a mark follows the records of a reel, after a read returned nothing: such a
-/// read met a mark, or the end of the reel. `records` is the number of records from the beginning
-/// of the reel up to that place.
+/// Finds out whether a mark follows the first `records` records of a reel, behind which a read
+/// returned nothing.
 ///
-/// - It spaces back over one record (MTBSR). If that is done, there is no mark.
-/// - If that is refused with EIO, it rewinds, spaces forward over all records (MTFSR), and over a
-///   mark (MTFSF). If all of these are done, there is a mark.
-/// - Any other refusal says nothing of the reel, nor do more than `NUMBER_LIMIT` records.
+/// It spaces back over one record (MTBSR). If that is done, there is no mark. If that is refused
+/// with EIO, it rewinds, and spaces forward over the records (MTFSR) and a mark (MTFSF). If these
+/// are done, there is a mark. Any other refusal says nothing of the reel, nor do more than
+/// `NUMBER_LIMIT` records.
 ///
 /// Fails if a request gets no reply. Then nothing more is sent.
 pub fn find_mark<P: Peer>(
@@ -41,15 +39,6 @@ pub fn find_mark<P: Peer>(
     peer: &mut P,
     records: u64,
 ) -> Result<MarkSearch, TapeFault>
-    // If the peer's log is known, the call sends MTBSR 1. If that is refused with EIO, the call
-    // sends a rewind, MTFSR with the given number of records, and MTFSF 1. The call sends each
-    // request once, after the reply to the previous request. After any other refusal the call sends
-    // nothing more. After a request that gets no reply, the call sends nothing more. If the number
-    // of records is above `NUMBER_LIMIT`, the call sends nothing after the rewind.
-    //
-    // The call returns `Found` only if MTFSF was done, and `Missing` only if MTBSR was done. After
-    // a refusal the call returns the request that was refused, and the error number. If a request
-    // gets no reply, the call fails.
     ensures { IsSought (λ at_mark. spec.next_back at_mark records) P.tells peer.old peer.new result }
 {
     match tape.space(peer, MTBSR, 1) {
@@ -64,8 +53,6 @@ pub fn find_mark<P: Peer>(
     }
 }
 
-/// Goes to the mark from the beginning, after spacing back was refused with EIO: a mark stopped it,
-/// or the device failed.
 fn find_from_start<P: Peer>(
     tape: &mut RemoteTape,
     peer: &mut P,
@@ -85,7 +72,6 @@ fn find_from_start<P: Peer>(
     }
 }
 
-/// Spaces over this many records from the beginning, and then over the mark behind them.
 fn find_behind<P: Peer>(
     tape: &mut RemoteTape,
     peer: &mut P,
@@ -100,7 +86,6 @@ fn find_behind<P: Peer>(
     }
 }
 
-/// Spaces over a mark right behind the last record.
 fn find_here<P: Peer>(tape: &mut RemoteTape, peer: &mut P) -> Result<MarkSearch, TapeFault>
     ensures { IsSought spec.next_over P.tells peer.old peer.new result }
 {
@@ -110,8 +95,6 @@ fn find_here<P: Peer>(tape: &mut RemoteTape, peer: &mut P) -> Result<MarkSearch,
     }
 }
 
-/// Returns what a search found whose request failed: that it cannot be told after a refusal, and
-/// else the fault.
 fn give_up(fault: TapeFault) -> Result<MarkSearch, TapeFault>
     ensures { result ≡ given_up fault }
 {

@@ -1,4 +1,4 @@
-//! A reply to a request, as a tape keeps it.
+//! A reply that a tape keeps.
 ghost use Rattle.std.specs.Prelude.{◌≡◌, IfOk};
 ghost use Rattle.rmt_wire.specs.Lent.{plain_reply};
 ghost use Rattle.remote_tape.specs.Call.{Answers, plain_number};
@@ -10,26 +10,22 @@ use std::alloc::{AllocError, Global};
 /// A reply to a request, without the data of a read.
 #[derive(Drop)]
 pub enum TapeReply {
-    /// The request was done. The number is at most `NUMBER_LIMIT`. After a read it is the number of
-    /// the bytes that came.
+    /// The number is at most `NUMBER_LIMIT`. After a read it is how many bytes came.
     Done { number: u64 },
-    /// The request was refused, with the number and the text of an error. At most `LINE_LIMIT`
-    /// bytes of the text are kept.
+    /// At most `LINE_LIMIT` bytes of the text are kept.
     Error { number: u32, text: Vec<u8> },
 }
 
 impl TapeReply {
     /// Returns whether the request was done.
     pub fn is_done(&self) -> bool
-        // Returns true for `Done`, and false for `Error`.
         ensures { result ≡ is_done (plain_number self.now) }
     {
         matches!(self, TapeReply::Done { .. })
     }
 }
 
-/// Keeps a reply, but not the data of a read. Fails only if the allocation for the text of an error
-/// fails.
+/// Fails only if an allocation fails.
 pub(crate) fn keep(alloc: Global, reply: Reply<'_>) -> Result<TapeReply, AllocError>
     ensures { IfOk result (λ a. Answers a (plain_reply reply.entry)) }
 {

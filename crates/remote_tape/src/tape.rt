@@ -1,4 +1,4 @@
-//! A tape drive at the far end of a connection.
+//! A tape drive behind a connection.
 ghost use Rattle.std.specs.Prelude.{◌≡◌, ◌≤◌, ℕ, List, Some, IsTrue, IsFalse, map};
 ghost use Rattle.rmt_wire.specs.Lent.{plain_request, plain_wanted};
 ghost use Rattle.rmt_wire.specs.Number.{IsLine};
@@ -21,12 +21,8 @@ use rmt_wire::mtio::{MTOFFL, MTREW};
 use rmt_wire::{Reply, ReplyReader, Request, Wanted, push_request};
 use std::alloc::{AllocError, Global};
 
-/// Sends requests to a tape drive over a peer. It holds a buffer for a request, and one for the
-/// reply, which is received straight into it.
-///
-/// No request affects a later one: its promises hold after any earlier one, even a failed one, and
-/// with any peer. After a request that got no reply, the caller should send nothing more over that
-/// connection.
+/// Sends requests to a tape drive over a peer, each once. Promises hold after any earlier request,
+/// even a failed one. After a request that got no reply, send nothing more over that connection.
 #[derive(Drop)]
 pub struct RemoteTape {
     alloc: Global,
@@ -35,8 +31,7 @@ pub struct RemoteTape {
 }
 
 impl RemoteTape {
-    /// Makes a `RemoteTape`. The call allocates `rmt_wire::READER_LIMIT` bytes once, and fails only
-    /// if this allocation fails.
+    /// Fails only if the allocation of `rmt_wire::READER_LIMIT` bytes fails.
     pub fn new(alloc: Global) -> Result<RemoteTape, AllocError> {
         Ok(RemoteTape {
             alloc,
@@ -45,17 +40,11 @@ impl RemoteTape {
         })
     }
 
-    /// Opens a device with this mode.
-    ///
-    /// The device is one line of at most `LINE_LIMIT` bytes, and the mode is at most
+    /// Opens a device, which is one line of at most `LINE_LIMIT` bytes. The mode is at most
     /// `NUMBER_LIMIT`.
     pub fn open<P: Peer>(&mut self, peer: &mut P, device: &[u8], mode: u32) -> Result<(), TapeFault>
         requires device { IsLine device.now }
         requires mode { mode ≤ NUMBER_LIMIT }
-        // If the peer's log is known, the call sends the open of the given device with the given
-        // mode once, and sends nothing else. If the call succeeds, the peer's reply is a number.
-        // Otherwise the fault names the open. The fault also says with which error the server
-        // refused the open, or why there is no reply.
         ensures { IsAsked P.tells named.Open (requests.PlainRequest.Open device.now mode) peer.old peer.new result }
     {
         self.ask(peer, TapeRequest::Open, &Request::Open { device, mode })
@@ -63,7 +52,6 @@ impl RemoteTape {
 
     /// Rewinds the reel.
     pub fn rewind<P: Peer>(&mut self, peer: &mut P) -> Result<(), TapeFault>
-        // The call sends a rewind as `open` sends an open. A fault names the rewind.
         ensures { IsAsked P.tells named.Rewind (requests.PlainRequest.Op MTREW 1) peer.old peer.new result }
     {
         let rewind = Request::Op {
@@ -73,13 +61,11 @@ impl RemoteTape {
         self.ask(peer, TapeRequest::Rewind, &rewind)
     }
 
-    /// Spaces over this many marks or records: `op` is `MTFSF`, `MTBSF`, `MTFSR` or `MTBSR`. The
-    /// count is at most `NUMBER_LIMIT`.
+    /// Spaces over `count` marks or records, at most `NUMBER_LIMIT`. `op` is `MTFSF`, `MTBSF`,
+    /// `MTFSR` or `MTBSR`.
     pub fn space<P: Peer>(&mut self, peer: &mut P, op: u32, count: u32) -> Result<(), TapeFault>
         requires op { IsSpace op }
         requires count { count ≤ NUMBER_LIMIT }
-        // The call sends the given operation with the given count as `open` sends an open. A fault
-        // names it a space.
         ensures { IsAsked P.tells named.Space (requests.PlainRequest.Op op count) peer.old peer.new result }
     {
         self.ask(peer, TapeRequest::Space, &Request::Op { op, count })
@@ -87,7 +73,6 @@ impl RemoteTape {
 
     /// Moves the reel to the bin (`MTOFFL`).
     pub fn offline<P: Peer>(&mut self, peer: &mut P) -> Result<(), TapeFault>
-        // The call sends MTOFFL 1 as `open` sends an open. A fault names it an offline.
         ensures { IsAsked P.tells named.Offline (requests.PlainRequest.Op MTOFFL 1) peer.old peer.new result }
     {
         let offline = Request::Op {
@@ -99,22 +84,15 @@ impl RemoteTape {
 
     /// Closes the device.
     pub fn close<P: Peer>(&mut self, peer: &mut P) -> Result<(), TapeFault>
-        // The call sends a close as `open` sends an open. A fault names the close.
         ensures { IsAsked P.tells named.Close requests.PlainRequest.Close peer.old peer.new result }
     {
         self.ask(peer, TapeRequest::Close, &Request::Close)
     }
 
-    /// Reads the next record from the open drive: at most `most` bytes of it. Lends the bytes from
-    /// the buffer that they came into. There are none at a mark or at the end of the reel.
-    ///
-    /// `most` is at most `RECORD_LIMIT`.
+    /// Reads the next record, and lends at most `most` bytes of it, up to `RECORD_LIMIT`. There are
+    /// none at a mark or at the end of the reel.
     pub fn read<P: Peer>(&mut self, peer: &mut P, most: u32) -> Result<&[u8], TapeFault>
         requires { most ≤ RECORD_LIMIT }
-        // If the peer's log is known, the call sends one read of at most the given number of bytes,
-        // and nothing else. If the call succeeds, the bytes are exactly the data of the reply that
-        // the peer sent. Otherwise the fault names the read, and has the error number of the
-        // refusal, or why there is no reply.
         ensures { IsRecordRead P.tells most peer.old peer.new result }
     {
         match self.exchange(peer, &Request::Read { count: most }) {
@@ -132,20 +110,10 @@ impl RemoteTape {
         }
     }
 
-    /// Sends a request whose reply is a number once, and waits for the whole reply. An error of the
-    /// server is a reply too.
+    /// Sends a request other than a read once, and waits for the whole reply, a number or an error.
     ///
-    /// The device of an open is one line of at most `LINE_LIMIT` bytes. A write has at most
-    /// `RECORD_LIMIT` bytes. All other numbers are at most `NUMBER_LIMIT`.
-    ///
-    /// It allocates for the request, and for the text of an error.
-    ///
-    /// Errors:
-    ///
-    /// - `OutOfMemory`: an allocation failed.
-    /// - `ConnectionEnded`: there is no connection, or it ended before the reply was whole.
-    /// - `Botched`: the bytes that came are no reply to the request, or more bytes follow the
-    ///   reply.
+    /// A device is one line of at most `LINE_LIMIT` bytes. A write has at most `RECORD_LIMIT`
+    /// bytes. Other numbers are at most `NUMBER_LIMIT`.
     pub fn call<P: Peer>(
         &mut self,
         peer: &mut P,
@@ -153,16 +121,6 @@ impl RemoteTape {
     ) -> Result<TapeReply, CallFault>
         requires spelling { requests.HasSpelling (plain_request request.now) }
         requires number { wanted_by (plain_request request.now) ≡ Number }
-        // If the peer's log is known, the call sends the given request at most once, and sends
-        // nothing else. The call sends the bytes that `rmt_wire` writes for the request. If the
-        // connection ends while the call sends, only a beginning of these bytes is sent. If the
-        // call returns a reply, the call sent the whole request, and then the peer sent exactly
-        // this reply. The reply is an error or a number.
-        //
-        // If the call returns no reply, the call returns the reason. `ConnectionEnded` means that
-        // the connection ended during the request or the reply. `Botched` means that the received
-        // bytes are not a reply, or that more bytes follow the reply. `OutOfMemory` means that an
-        // allocation for the request or for a received reply failed.
         ensures { IsCalled P.tells (plain_request request.now) (plain_result result) peer.old peer.new }
     {
         let alloc = self.alloc;
@@ -175,7 +133,6 @@ impl RemoteTape {
         }
     }
 
-    /// Makes a request whose reply is a number, and which a fault names so.
     fn ask<P: Peer>(
         &mut self,
         peer: &mut P,
@@ -197,8 +154,6 @@ impl RemoteTape {
         })
     }
 
-    /// Sends a request once over the open connection, and waits for the whole reply. Lends the
-    /// reply from the reader.
     fn exchange<P: Peer>(
         &mut self,
         peer: &mut P,
@@ -222,7 +177,6 @@ impl RemoteTape {
     }
 }
 
-/// Returns the kind of reply that a request gets: data for a read, and a number for any other.
 fn wanted_of(request: &Request<'_>) -> Wanted
     ensures { plain_wanted result ≡ wanted_by (plain_request request.now) }
 {
@@ -232,17 +186,13 @@ fn wanted_of(request: &Request<'_>) -> Wanted
     }
 }
 
-/// Receives bytes from the peer once, straight into the reader. Returns how many came.
 fn receive<P: Peer>(peer: &mut P, reader: &mut ReplyReader) -> usize
     ensures { IsReceivedFrom P.tells peer.old peer.new reader.old reader.new result }
 {
     reader.fill(&mut |into: &mut [u8]| peer.receive(into))
 }
 
-/// Receives bytes into the reader until they are a whole reply of this kind, or cannot become one.
-/// The reply begins with the next byte that the peer sends.
-///
-/// Fails with `ConnectionEnded` if the connection ends before that.
+/// Receives bytes until they are a whole reply, or cannot become one.
 fn hear<P: Peer>(peer: &mut P, reader: &mut ReplyReader, wanted: Wanted) -> Result<(), CallFault>
     requires { IsWithin (plain_wanted wanted) }
     ensures { IsHeard P.tells (plain_wanted wanted) reader.new peer.old peer.new result }
@@ -260,7 +210,6 @@ fn hear<P: Peer>(peer: &mut P, reader: &mut ReplyReader, wanted: Wanted) -> Resu
     Err(CallFault::Botched)
 }
 
-/// Returns whether the reader's bytes are only a beginning of the reply that it waits for.
 fn is_waiting(reader: &ReplyReader) -> bool
     ensures more { IsTrue result → (wanted : kinds.Wanted) (bytes : List ℕ) → ReplyUnread reader.now (Some wanted) bytes →
         IsReplyAwaited wanted reader.now bytes }
@@ -273,8 +222,6 @@ fn is_waiting(reader: &ReplyReader) -> bool
     }
 }
 
-/// Lends the reply from a reader that no longer waits for it. Fails with `Botched` if its bytes are
-/// no reply, or if more bytes follow it.
 fn whole_reply(reader: &ReplyReader) -> Result<Reply<'_>, CallFault>
     ensures { (wanted : kinds.Wanted) (bytes : List ℕ) → ReplyUnread reader.now (Some wanted) bytes → IsEnough wanted bytes →
         Brings wanted (lent_result result) (map Given bytes) }

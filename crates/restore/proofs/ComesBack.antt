@@ -14,7 +14,7 @@ use Rattle.dump_run.specs.DumpId.{PlainId}
 use Rattle.dump_run.specs.Label.{IsLabel, PlainLabel, label, label_of}
 use Rattle.dump_run.specs.Run.{IsBlockSize, IsRun, PlainRun, id_of_run}
 use Rattle.dump_run.specs.declared.count.VolumeCount.{VolumeCount}
-use Rattle.volume_sum.specs.Volume.{block_records, whole_volume}
+use Rattle.volume_check.specs.Volume.{block_records, whole_volume}
 use Rattle.restore.proofs.FoundMore.{same_label}
 use Rattle.restore.proofs.Whole.{OneHolding, spelled, volume_entries}
 use Rattle.restore.specs.Dumped.{AreTaken, AreThere, IsPayloadOf, IsThere}

@@ -5,9 +5,9 @@ use Rattle.std.specs.Prelude.{Contains}
 use borrow.Author.Count.{below_more}
 use Rattle.tape.proofs.Spelling.{spells_in}
 use Rattle.dump_run.specs.Label.{PlainLabel, id_of}
-use Rattle.reel_check.specs.Holding.{IsHolding}
-use Rattle.reel_check.specs.declared.holding.Holding.TheVariants as holding
-use Rattle.reel_check.specs.declared.holding.Volume.{Volume}
+use Rattle.volume_check.specs.Holding.{IsHolding}
+use Rattle.volume_check.specs.declared.holding.Holding.TheVariants as holding
+use Rattle.volume_check.specs.declared.holding.Volume.{Volume}
 use Rattle.restore.proofs.Whole.{OneHolding, is_volume, same_volume, spelled, volume_entries, whole_of}
 use Rattle.restore.specs.Found.{AreFound, IsFoundOn, IsWantedVolume}
 use Rattle.restore.specs.Restored.{PlainWanted, Fits, IsTaken}

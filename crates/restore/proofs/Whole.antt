@@ -10,12 +10,12 @@ use Rattle.rmt_wire.specs.declared.limits.TheConstants.{RECORD_LIMIT}
 use Rattle.dump_run.proofs.LabelReading.{length_record}
 use Rattle.dump_run.specs.Label.{PlainLabel, label_record}
 use Rattle.dump_run.specs.Run.{blocks_limit}
-use Rattle.reel_check.specs.Holding.{IsHolding, IsVolume}
-use Rattle.reel_check.specs.declared.contents.ReelContents.{ReelContents}
-use Rattle.reel_check.specs.declared.holding.Holding.{Holding}
-use Rattle.reel_check.specs.declared.holding.Holding.TheVariants as holding
-use Rattle.reel_check.specs.declared.holding.Volume.{Volume}
-use Rattle.reel_check.specs.declared.holding.VolumeEnd.TheVariants.{OneMark}
+use Rattle.volume_check.specs.Holding.{IsHolding, IsVolume}
+use Rattle.volume_check.specs.declared.contents.ReelContents.{ReelContents}
+use Rattle.volume_check.specs.declared.holding.Holding.{Holding}
+use Rattle.volume_check.specs.declared.holding.Holding.TheVariants as holding
+use Rattle.volume_check.specs.declared.holding.Volume.{Volume}
+use Rattle.volume_check.specs.declared.holding.VolumeEnd.TheVariants.{OneMark}
 use Rattle.restore.proofs.Blocks.{one_size}
 use Rattle.restore.specs.Found.{IsChecked, IsFinding, IsFoundOn, IsNotTaken}
 use Rattle.restore.specs.Restored.{PlainWanted}

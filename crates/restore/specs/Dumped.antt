@@ -4,7 +4,7 @@ use Rattle.tape.specs.RecordFile.{images_of}
 use Rattle.dump_run.specs.Label.{IsLabel, label_of}
 use Rattle.dump_run.specs.Run.{PlainRun}
 use Rattle.dump_run.specs.declared.count.VolumeCount.{VolumeCount}
-use Rattle.volume_sum.specs.Volume.{volume_sum, whole_volume}
+use Rattle.volume_check.specs.Volume.{volume_sum, whole_volume}
 use Rattle.catalog.specs.Verdict.{IsVerdict}
 use Rattle.catalog.specs.declared.line.CatalogLine.{CatalogLine}
 use Rattle.catalog.specs.declared.verdict.SumVerdict.TheVariants.{Equal}

@@ -3,8 +3,8 @@ use Rattle.std.specs.Prelude.{◌≡◌, ◌≢◌, ℕ, ◌<◌, List, All, Con
 use Rattle.tape.specs.RecordFile.{SpellsReel}
 use Rattle.tape.specs.Tape.{PlainEntry}
 use Rattle.dump_run.specs.Label.{PlainLabel, id_of}
-use Rattle.reel_check.specs.Contents.{IsContents}
-use Rattle.reel_check.specs.declared.contents.ReelContents.{ReelContents}
+use Rattle.volume_check.specs.Contents.{IsContents}
+use Rattle.volume_check.specs.declared.contents.ReelContents.{ReelContents}
 use Rattle.catalog.specs.declared.verdict.SumVerdict.{SumVerdict}
 use Rattle.catalog.specs.declared.verdict.SumVerdict.TheVariants.{Equal}
 use Rattle.restore.specs.Restored.{PlainWanted, Fits, IsTaken}

@@ -28,7 +28,8 @@ abbrev pub end_after : ℕ → List FoundVolume → ℕ
 end_after first [] = first
 end_after first (f ∷ fs) = end_after (f.label.first + f.blocks) fs
 
--- the least number that the next volume can have
+-- the least number of a volume after these: one more than the last one's, or `volume` if there are
+-- none
 abbrev pub next_after : ℕ → List FoundVolume → ℕ
 next_after volume [] = volume
 next_after volume (f ∷ fs) = next_after (f.label.volume + 1) fs

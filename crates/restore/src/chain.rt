@@ -1,4 +1,4 @@
-//! The volumes of one dump, each beginning where the one before it ends.
+//! The volumes of one dump, in order.
 ghost use Rattle.std.specs.Prelude.{◌≡◌, ◌⊎◌, Contains, ◌<◌, ◌≤◌, ◌+◌, ◌++◌, ◌∷◌, [], ◌^◌, ℕ, All, List, IfOk, IfSome, length};
 ghost use Rattle.restore.specs.Chain.{AreAlike, AreOfOneChain, IsAmong, IsChain, IsReelOf};
 ghost use Rattle.restore.specs.Found.{IsFound};
@@ -19,8 +19,8 @@ pub(crate) struct Chain {
     pub(crate) end: u64,
 }
 
-/// Returns the chain of these volumes. Reels that have the same volume are compared: if they have
-/// the same bytes, the first one is taken. Reads these in pieces half as long as `room`.
+/// Returns the chain of these volumes. If reels have the same volume, it takes one of them, and
+/// they must have the same bytes. It compares them in pieces half as long as `room`.
 pub(crate) fn chain_of<S: Shelf>(
     alloc: Global,
     shelf: &mut S,
@@ -45,8 +45,7 @@ pub(crate) fn chain_of<S: Shelf>(
 }
 
 impl Chain {
-    /// Takes a volume: the next one, or one that has the same bytes as the last one. Reads the
-    /// reels of these in pieces half as long as `room`.
+    /// Takes a volume: the next one, or one that has the same bytes as the last one.
     fn take<S: Shelf>(
         &mut self,
         shelf: &mut S,
@@ -72,7 +71,6 @@ impl Chain {
         })
     }
 
-    /// Adds the next volume.
     fn add(&mut self, volume: FoundVolume) -> Result<(), Refusal>
         ensures chain { (reels : List (List ℕ)) (blocks : List (List ℕ)) → IsFound reels volume blocks → IsChain reels self.old.volumes.items self.old.end →
             IfOk result (λ _. IsChain reels self.new.volumes.items self.new.end) }
@@ -87,7 +85,6 @@ impl Chain {
         Ok(())
     }
 
-    /// Checks that a volume is the next one of the same dump, and has blocks of the same size.
     fn check_next(&self, volume: &FoundVolume) -> Result<(), Refusal>
         ensures number { IfOk result (λ _. volume.now.label.volume ≡ length self.now.volumes.items + 1) }
         ensures first { IfOk result (λ _. volume.now.label.first ≡ self.now.end) }
@@ -112,8 +109,7 @@ impl Chain {
     }
 }
 
-/// Returns the reel of the last of these volumes, if this volume has the same number and is of the
-/// same dump.
+/// Returns the reel of the last of these volumes, if it has the number and the dump of this volume.
 pub(crate) fn repeated(volumes: &[FoundVolume], volume: &FoundVolume) -> Option<usize>
     ensures { IfSome result (λ reel. IsReelOf volumes.now reel) }
 {
@@ -125,7 +121,6 @@ pub(crate) fn repeated(volumes: &[FoundVolume], volume: &FoundVolume) -> Option<
     }
 }
 
-/// Checks that two volumes are of the same dump, and have blocks of the same size.
 pub(crate) fn check_alike(volume: &FoundVolume, other: &FoundVolume) -> Result<(), Refusal>
     ensures { IfOk result (λ _. AreOfOneChain volume.now other.now) }
 {

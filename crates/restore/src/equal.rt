@@ -34,7 +34,6 @@ pub(crate) fn are_equal<S: Shelf>(
     }
 }
 
-/// Whether two media have the same bytes. Reads both in pieces half as long as `room`.
 fn have_equal_bytes<M: Medium>(
     one: &mut M,
     two: &mut M,
@@ -59,7 +58,6 @@ fn have_equal_bytes<M: Medium>(
     Ok(true)
 }
 
-/// Whether two media have the same bytes from offset `at` on, as many as `first` and `second` have.
 fn are_pieces_equal<M: Medium>(
     one: &mut M,
     two: &mut M,

@@ -34,12 +34,12 @@ pub enum Refusal {
         /// The other reel.
         other: usize,
     },
-    /// No reel has this volume, and a reel has a later one, or the dump has so many volumes.
+    /// No reel has this volume, but the dump has it, or a reel has a later one.
     Missing {
         /// The number of the volume.
         volume: u64,
     },
-    /// The dump has so many volumes, and there are reels with more.
+    /// The dump has so many volumes, but reels have more.
     MoreVolumes {
         /// How many volumes the dump has.
         volumes: u32,
@@ -60,18 +60,18 @@ pub enum Refusal {
     },
 }
 
-/// Why a payload was not restored.
+/// Why a payload was not restored. Unless it was refused, a beginning of the payload was written:
+/// nothing, a part, or all of it.
 #[derive(Clone, Copy, Debug, PartialEq, Eq)]
 pub enum RestoreFault {
     /// It was refused, and nothing was written.
     Refused(Refusal),
-    /// A reel could not be opened or read again, or it was changed after it was checked. A
-    /// beginning of the payload was written: nothing, a part, or all of it.
+    /// A reel could not be opened or read again, or it was changed after it was checked.
     Reel {
         /// The reel.
         reel: usize,
     },
-    /// The output failed. A beginning of the payload was written: nothing, a part, or all of it.
+    /// The output failed.
     Output,
 }
 

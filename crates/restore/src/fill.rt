@@ -14,7 +14,7 @@ use rmt_wire::{Counted, print_text};
 use std::io::Write;
 
 /// Writes so many bytes: the blocks of these volumes, with zero bytes for the missing ones, and
-/// zero bytes behind the last one. `room` has room for a record with its frame.
+/// zero bytes behind the last one.
 pub(crate) fn write_filled<S: Shelf, W: Write>(
     shelf: &mut S,
     volumes: &[FoundVolume],
@@ -31,8 +31,7 @@ pub(crate) fn write_filled<S: Shelf, W: Write>(
     write_zeros(left, room, out)
 }
 
-/// Writes the blocks of these volumes, with zero bytes for the missing ones before and between
-/// them, up to `left` bytes. Returns how many bytes are left.
+/// Writes at most `left` bytes, and none behind the last volume. Returns how many are left.
 fn write_parts<S: Shelf, W: Write>(
     shelf: &mut S,
     volumes: &[FoundVolume],
@@ -53,8 +52,7 @@ fn write_parts<S: Shelf, W: Write>(
     Ok(left)
 }
 
-/// Writes zero bytes for the missing blocks from `end` on, and then the blocks of a volume, up to
-/// `left` bytes. Returns how many bytes are left.
+/// Writes zero bytes for the missing blocks from `end` on, and then the blocks of a volume.
 fn write_part<S: Shelf, W: Write>(
     shelf: &mut S,
     volume: &FoundVolume,
@@ -74,7 +72,7 @@ fn write_part<S: Shelf, W: Write>(
     write_volume(shelf, volume, left - count, room, out)
 }
 
-/// Writes so many zero bytes, in pieces as long as `room`.
+/// Writes so many zero bytes. Overwrites `room` with zeros.
 fn write_zeros<W: Write>(
     count: u64,
     room: &mut [u8],

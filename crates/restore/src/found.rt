@@ -3,7 +3,7 @@ ghost use Rattle.std.specs.Prelude.{◌≡◌, ◌<◌, ◌≤◌, ◌+◌, ℕ,
 ghost use Rattle.tape.specs.Failures.{Steps};
 ghost use Rattle.tape.specs.RecordFile.{SpellsReel};
 ghost use Rattle.tape.specs.Tape.{PlainEntry};
-ghost use Rattle.reel_check.specs.Contents.{IsContents};
+ghost use Rattle.volume_check.specs.Contents.{IsContents};
 ghost use Rattle.restore.specs.Found.{AreFound, IsByVerdict, IsChecked, IsFinding, IsFoundIn, IsFoundOn};
 ghost use Rattle.restore.specs.Restored.{PlainWanted};
 
@@ -12,26 +12,25 @@ use crate::volume::FoundVolume;
 use crate::{Shelf, Wanted};
 use catalog::SumVerdict;
 use dump_run::BLOCKS_LIMIT;
-use reel_check::{Holding, ReelContents, VolumeEnd, check_reel, one_holding};
 use rmt_wire::RECORD_LIMIT;
 use std::alloc::Global;
 use tape::{Medium, MediumFailed};
-use volume_sum::medium_sum;
+use volume_check::{Holding, ReelContents, VolumeEnd, check_reel, medium_sum, one_holding};
 
 /// What was found on a reel.
 #[derive(Drop)]
 enum Finding {
     /// No whole volume of a dump that is wanted.
     Nothing,
-    /// A whole volume of a dump that is wanted, which has this verdict in the catalog.
+    /// A whole volume of a dump that is wanted, with a verdict that is not `Equal`.
     Aside(SumVerdict),
     /// A volume that is taken.
     Taken(FoundVolume),
 }
 
-/// Returns the whole volumes of dumps that are wanted, each reel's in the order of the reels. With
-/// a catalog it returns only volumes whose verdict is `Equal`, and sets the other reels aside. Reads
-/// each reel once, in pieces as long as `room`.
+/// Returns the whole volumes of dumps that are wanted, in the order of the reels. With a catalog it
+/// returns only volumes whose verdict is `Equal`, and sets the other reels aside. Reads each reel
+/// once, in pieces as long as `room`.
 pub(crate) fn find_volumes<S: Shelf>(
     alloc: Global,
     shelf: &mut S,
@@ -51,7 +50,6 @@ pub(crate) fn find_volumes<S: Shelf>(
     Ok(found)
 }
 
-/// Adds a volume, if there is one.
 fn add_found(found: &mut Vec<FoundVolume>, volume: Option<FoundVolume>) -> Result<(), Refusal>
     ensures { (reels : List (List ℕ)) (wanted : PlainWanted) (number : ℕ) → IsFoundOn reels wanted number volume → AreFound reels wanted number found.old.items →
         IfOk result (λ _. AreFound reels wanted (number + 1) found.new.items) }
@@ -65,8 +63,7 @@ fn add_found(found: &mut Vec<FoundVolume>, volume: Option<FoundVolume>) -> Resul
     Ok(())
 }
 
-/// Returns the volume on a reel, if it is taken. If it is of a dump that is wanted, but has another
-/// verdict, the reel is set aside. Reads the reel once, in pieces as long as `room`.
+/// Returns the volume on a reel, if it is taken. Sets the reel aside if it has another verdict.
 fn look<S: Shelf>(
     shelf: &mut S,
     number: usize,
@@ -93,7 +90,6 @@ fn look<S: Shelf>(
     }
 }
 
-/// Returns what is found on the reel of this number.
 fn find_volume<M: Medium>(
     reel: &mut M,
     number: usize,
@@ -119,7 +115,6 @@ fn find_volume<M: Medium>(
     Ok(by_verdict(volume, verdict))
 }
 
-/// Returns the volume, if it has the verdict `Equal`.
 fn by_verdict(volume: FoundVolume, verdict: SumVerdict) -> Finding
     ensures { IsByVerdict volume verdict result }
 {
@@ -131,7 +126,7 @@ fn by_verdict(volume: FoundVolume, verdict: SumVerdict) -> Finding
     }
 }
 
-/// Returns what a reel holds. The bytes of its records are read if they are not hashed later.
+/// Reads the bytes of the records only if they are not hashed later.
 fn contents_of<M: Medium>(
     reel: &mut M,
     is_hashed: bool,
@@ -148,7 +143,6 @@ fn contents_of<M: Medium>(
     }
 }
 
-/// Returns the whole volume on the reel of this number, if these contents are one.
 fn whole_volume(number: usize, contents: ReelContents) -> Option<FoundVolume>
     ensures { (bytes : List ℕ) → IsChecked bytes contents → IsFoundIn bytes number result }
 {

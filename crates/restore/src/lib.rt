@@ -2,17 +2,16 @@
 //!
 //! `restore` checks the reels of a `Shelf`, chooses the volumes of one dump, and writes the payload
 //! to an output. If reels are missing, `restore_partial` writes what can be had, and returns each
-//! `Gap`, a range of missing blocks. `ListShelf` is a shelf in memory. The law
-//! `what_was_dumped_comes_back` ties what is restored to what was dumped.
+//! `Gap`. The law `what_was_dumped_comes_back` ties what is restored to what was dumped.
 //!
 //! # Contracts
 //!
-//! A *shelf* has reels, numbered from 0. Each reel is a record file on a medium, and can be opened
-//! again and again. A *whole volume* is a reel that has a label, at most 2,147,483,647 blocks of
-//! one size, one mark, and nothing else. Blocks are numbered from 0 over all volumes of a dump. A
-//! dump's volumes have the numbers 1, 2, 3 and so on, and each label has the number of its volume's
-//! first block. The *payload* is the blocks of all volumes, joined, and cut at its length: the last
-//! block ends with bytes that do not belong to it.
+//! A *shelf* has reels, numbered from 0. Each reel is a record file on a medium. A *whole volume*
+//! is a reel that has a label, at most 2,147,483,647 blocks of one size, one mark, and nothing
+//! else. Blocks are numbered from 0 over all volumes of a dump. A dump's volumes have the numbers
+//! 1, 2, 3 and so on, and each label has the number of its volume's first block. The *payload* is
+//! the blocks of all volumes, joined, and cut at its length: the last block can end with bytes that
+//! do not belong to it.
 //!
 //! A *refusal* ends a restore before its first byte is written.
 #![tactic(auto)]

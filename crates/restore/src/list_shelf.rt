@@ -27,7 +27,6 @@ impl Model for ListShelf {
 impl ListShelf {
     /// Makes a shelf with the given reels: the bytes of each one's record file. Allocates nothing.
     pub fn new(alloc: Global, reels: Vec<Vec<u8>>) -> ListShelf
-        // The shelf has the given reels.
         ensures { result ≡ bytes_of reels }
     {
         ListShelf { alloc, reels }

@@ -32,9 +32,8 @@ pub(crate) struct Parts {
     ghost near: { end ≤ 2 ^ 33 },
 }
 
-/// Returns the parts of a dump that these volumes are. Reels that have the same volume are
-/// compared: if they have the same bytes, the first one is taken. Reads these in pieces half as
-/// long as `room`.
+/// Returns the parts of a dump that these volumes are. If reels have the same volume, it takes one
+/// of them, and they must have the same bytes. It compares them in pieces half as long as `room`.
 pub(crate) fn parts_of<S: Shelf>(
     alloc: Global,
     shelf: &mut S,
@@ -63,8 +62,7 @@ pub(crate) fn parts_of<S: Shelf>(
 }
 
 impl Parts {
-    /// Takes a volume: a later one, or one that has the same bytes as the last one. Reads the reels
-    /// of these in pieces half as long as `room`.
+    /// Takes a volume: a later one, or one that has the same bytes as the last one.
     fn take<S: Shelf>(
         &mut self,
         shelf: &mut S,
@@ -93,7 +91,6 @@ impl Parts {
         })
     }
 
-    /// Adds a later volume, and the range of blocks that are missing before it.
     fn add(&mut self, volume: FoundVolume) -> Result<(), Refusal>
         ensures spaced { (reels : List (List ℕ)) (blocks : List (List ℕ)) → IsFound reels volume blocks → AreOfOneDump reels self.old.size self.old.volumes.items →
             IsSpacing self.old.volumes.items self.old.gaps.items self.old.end self.old.next →
@@ -114,8 +111,7 @@ impl Parts {
         Ok(())
     }
 
-    /// Checks that a volume is of the same dump, has blocks of the same size, and is behind the
-    /// last volume. Without a size no block can be missing before it.
+    /// If the size of a block is not known, no block can be missing before a volume.
     fn check_later(&self, volume: &FoundVolume) -> Result<(), Refusal>
         ensures number { IfOk result (λ _. self.now.next ≤ volume.now.label.volume) }
         ensures first { IfOk result (λ _. self.now.end ≤ volume.now.label.first) }
@@ -137,7 +133,6 @@ impl Parts {
     }
 }
 
-/// Adds the range of blocks from `first` to before `end`, if it has a block.
 fn add_gap(gaps: &mut Vec<Gap>, first: u64, end: u64) -> Result<(), Refusal>
     ensures { IfOk result (λ _. gaps.new.items ≡ gaps.old.items ++ gap_at first (end - first)) }
 {
@@ -150,8 +145,8 @@ fn add_gap(gaps: &mut Vec<Gap>, first: u64, end: u64) -> Result<(), Refusal>
     Ok(())
 }
 
-/// Adds the range of blocks of this size from `end` to the length in bytes that is asked, if there
-/// is one.
+/// If a length in bytes is asked, adds the gap from block `end` to the end of that length, if it
+/// has a block.
 pub(crate) fn add_last_gap(
     gaps: &mut Vec<Gap>,
     end: u64,
@@ -166,7 +161,6 @@ pub(crate) fn add_last_gap(
     }
 }
 
-/// Returns how many blocks of this size so many bytes need, 0 if the size is 0.
 fn blocks_of(bytes: u64, size: usize) -> u64
     ensures { result ≡ blocks_for size bytes }
 {

@@ -27,26 +27,17 @@ pub(crate) const ROOM: usize = RECORD_LIMIT + 2 * LENGTH_BYTES as usize;
 /// the same bytes. The reels of the dump are then read again: what is found there must have the
 /// same label and lengths as before.
 ///
-/// It allocates room for one record, and for each volume. `RestoreFault` lists the errors.
+/// It allocates room for one record, and for each volume.
 pub fn restore<S: Shelf, W: Write>(
     alloc: Global,
     shelf: &mut S,
     wanted: &Wanted<'_>,
     out: &mut Counted<W>,
 ) -> Result<(), RestoreFault>
-    // Suppose that the bytes of the reels and of the output are known. If the call succeeds, it has
-    // written exactly the payload of one dump that is wanted. The reels have the volumes of this
-    // dump from volume 1 on, each as a whole volume and nothing else, and each begins where the one
-    // before it ends. All blocks have one size. The payload has the given length, and ends in the
-    // last block of these volumes, or has no block. Each reel that has a whole volume of a dump
-    // that is wanted has the same bytes as one of these volumes. If the call fails without a
-    // refusal, it has written a beginning of such a payload: nothing, a part, or all of it.
     ensures comes_back { (reels : List (List ℕ)) → S.holds shelf.old reels →
         MatchResult result (λ _. (bytes : List ℕ) × IsRestored reels wanted.now bytes × Appends (W.contents out.old.inner) (W.contents out.new.inner) bytes)
         (λ fault. IsBroken reels wanted.now (W.contents out.old.inner) (W.contents out.new.inner) fault) }
-    // If the call refuses, it has not changed the output.
     ensures refused { IfErr result (λ fault. IsUntouched fault out.old out.new) }
-    // If the bytes of the reels are known, the call does not change them.
     ensures same { Steps S.holds shelf.old shelf.new (λ old new. new ≡ old) }
 {
     let Ok(mut room) = Box::new(alloc, [0; ROOM]) else {
@@ -63,7 +54,6 @@ pub fn restore<S: Shelf, W: Write>(
     }
 }
 
-/// Returns the volumes of the dump that is wanted, in order. Reads all reels of the shelf.
 fn choose<S: Shelf>(
     alloc: Global,
     shelf: &mut S,
@@ -80,7 +70,6 @@ fn choose<S: Shelf>(
     Ok(chain)
 }
 
-/// Checks that there are so many volumes, if their number is known.
 fn check_volumes(chain: &Chain, volumes: Option<u32>) -> Result<(), Refusal>
     ensures { IfOk result (λ _. IfSome volumes (λ count. length chain.now.volumes.items ≡ count)) }
 {
@@ -99,7 +88,6 @@ fn check_volumes(chain: &Chain, volumes: Option<u32>) -> Result<(), Refusal>
     Ok(())
 }
 
-/// Checks that there is a volume, and that the payload of this length ends in the last block.
 fn check_length(chain: &Chain, length: u64) -> Result<(), Refusal>
     ensures { IfOk result (λ _. IsComplete length chain.now.end chain.now.volumes.items) }
 {
@@ -115,7 +103,6 @@ fn check_length(chain: &Chain, length: u64) -> Result<(), Refusal>
     })
 }
 
-/// Whether a payload of this length ends in the last of this many blocks.
 fn is_length_of(length: u64, block_bytes: usize, blocks: u64) -> bool
     ensures { IsTrue result → IsLengthOf length block_bytes blocks }
 {

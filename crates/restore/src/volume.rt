@@ -11,7 +11,6 @@ use rmt_wire::RECORD_LIMIT;
 pub(crate) struct FoundVolume {
     /// The number of the reel.
     pub(crate) reel: usize,
-    /// Its label.
     pub(crate) label: VolumeLabel,
     /// How many blocks it has.
     pub(crate) blocks: u64,

@@ -38,8 +38,6 @@ impl Wanted<'_> {
     /// Whether a volume with this label is of a dump that is wanted: the label has the name, the
     /// level and the date that are given.
     pub fn fits(&self, label: &VolumeLabel) -> bool
-        // Returns true if and only if the label has the name, the level and the date, as far as
-        // they are given.
         ensures { IsTrue result ↔ Fits self.now (id_of label.now) }
     {
         let is_named = match self.name {

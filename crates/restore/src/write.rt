@@ -40,8 +40,7 @@ enum BlockFault {
     Output,
 }
 
-/// Writes the blocks of these volumes, up to `left` bytes. Returns how many bytes are left. `room`
-/// has room for a record with its frame.
+/// Writes the blocks of these volumes, up to `left` bytes. Returns how many bytes are left.
 pub(crate) fn write_volumes<S: Shelf, W: Write>(
     shelf: &mut S,
     volumes: &[FoundVolume],
@@ -60,7 +59,6 @@ pub(crate) fn write_volumes<S: Shelf, W: Write>(
     Ok(left)
 }
 
-/// Writes the blocks of a volume, up to `left` bytes. Returns how many bytes are left.
 pub(crate) fn write_volume<S: Shelf, W: Write>(
     shelf: &mut S,
     volume: &FoundVolume,
@@ -86,8 +84,6 @@ pub(crate) fn write_volume<S: Shelf, W: Write>(
     }
 }
 
-/// Writes the blocks of the volume on this reel, up to `left` bytes. Returns how many bytes are
-/// left.
 fn write_reel<M: Medium, W: Write>(
     reel: &mut M,
     volume: &FoundVolume,
@@ -109,8 +105,7 @@ fn write_reel<M: Medium, W: Write>(
     Ok(left)
 }
 
-/// Writes the block of this size, which begins with its frame at offset `at` of a record file, up
-/// to `left` bytes. Returns how many bytes are left.
+/// Writes the block of this size, whose frame begins at offset `at` of a record file.
 fn copy_block<M: Medium, W: Write>(
     reel: &mut M,
     at: u64,
@@ -150,7 +145,6 @@ fn check_label<M: Medium>(reel: &mut M, volume: &FoundVolume) -> Result<(), Bloc
     }
 }
 
-/// Whether a record is the label of this volume.
 fn is_label_of(record: &[u8], volume: &FoundVolume) -> bool {
     match VolumeLabel::read(record) {
         Some(label) => {
@@ -162,7 +156,7 @@ fn is_label_of(record: &[u8], volume: &FoundVolume) -> bool {
     }
 }
 
-/// Reads the block of this size, which begins with its frame at offset `at` of a record file.
+/// Reads the block of this size, whose frame begins at offset `at` of a record file.
 fn read_block<M: Medium>(
     reel: &mut M,
     at: u64,
@@ -193,7 +187,6 @@ fn is_framed(bytes: &[u8], length: usize) -> bool
     bytes.starts_with(&frame) && bytes.ends_with(&frame)
 }
 
-/// Writes a block, up to `left` bytes. Returns how many bytes are left.
 fn write_block<W: Write>(block: &[u8], left: u64, out: &mut Counted<W>) -> Result<u64, BlockFault>
     ensures { IsWritten (W.contents out.old.inner) (W.contents out.new.inner) left block.now result }
 {

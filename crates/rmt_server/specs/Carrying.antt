@@ -72,6 +72,7 @@ pub record IsServed {H S Seat R : Type 0} (k : Kinds H Seat S R) (old : State H 
     (new : State H S Seat R) (before : SessionView) : Type 0 where
   pub after : SessionView
   pub tells : HasView k new after
+  -- if a device failed, its count of failures rose, and it could fail before
   pub troubled : Bool
   pub trouble : IsTrue troubled → HasTrouble k (is_of_stacks request) old new
   pub able : IsTrue troubled → SessionCanFail k old

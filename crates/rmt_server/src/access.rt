@@ -5,20 +5,15 @@ ghost use Rattle.rmt_server.specs.Access.{access_of, reads, writes};
 
 use rmt_wire::fcntl::{ACCESS_MODES, O_RDONLY, O_RDWR, O_WRONLY};
 
-/// The access of an open device.
 #[derive(Clone, Copy)]
 pub(crate) enum Access {
-    /// Read only.
     Read,
-    /// Write only.
     Write,
-    /// Both.
     Both,
 }
 
 impl Access {
-    /// Returns the access for an open's mode: only the mode modulo 4 counts. Returns `None` if that
-    /// is 3.
+    /// The access for the mode of an open. Only the mode modulo 4 counts: 3 gives `None`.
     pub(crate) fn of(mode: u32) -> Option<Access>
         ensures { result ≡ access_of mode }
     {
@@ -30,7 +25,6 @@ impl Access {
         }
     }
 
-    /// Whether records may be read.
     pub(crate) fn reads(self) -> bool
         ensures { result ≡ reads self }
     {
@@ -40,7 +34,6 @@ impl Access {
         }
     }
 
-    /// Whether records and marks may be written.
     pub(crate) fn writes(self) -> bool
         ensures { result ≡ writes self }
     {

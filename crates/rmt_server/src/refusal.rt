@@ -24,7 +24,6 @@ pub(crate) enum Refusal {
 }
 
 impl Refusal {
-    /// Returns the errno value that the error reply has.
     fn number(self) -> u32
         ensures { result ≡ number_of self }
     {
@@ -41,7 +40,6 @@ impl Refusal {
         }
     }
 
-    /// Returns the text that the error reply has after the errno value.
     fn text(self) -> &'static [u8]
         ensures { result.now ≡ text_of self }
     {
@@ -58,7 +56,6 @@ impl Refusal {
         }
     }
 
-    /// Returns the error reply.
     pub(crate) fn reply(self) -> Reply<'static>
         ensures { plain_reply result ≡ refused self }
     {
@@ -68,7 +65,6 @@ impl Refusal {
         }
     }
 
-    /// Returns the error that a client gets for a fault of a reel.
     pub(crate) fn of_tape(fault: TapeFault) -> Refusal
         ensures { result ≡ tape_refusal fault }
     {
@@ -80,7 +76,6 @@ impl Refusal {
         }
     }
 
-    /// Returns the error that a client gets for a fault of a drive.
     pub(crate) fn of_drive(fault: DriveFault) -> Refusal
         ensures { result ≡ drive_refusal fault }
     {

@@ -34,8 +34,6 @@ pub enum ServeFault {
 }
 
 impl From<OutputFault> for ServeFault {
-    // from_gives: `from` turns every `OutputFault` into `ServeFault::Output`.
-
     ghost use Rattle.std.specs.Prelude.{◌≡◌};
     ghost use Rattle.rmt_server.specs.declared.stream.ServeFault.TheVariants.{Output};
 
@@ -46,9 +44,9 @@ impl From<OutputFault> for ServeFault {
     }
 }
 
-/// Carries out each whole request that the reader has and writes its reply, until its bytes are no
-/// request. Returns the fault of those bytes, or `None` if the rest may still become a request.
-/// Fails if a reply could not be written.
+/// Carries out each whole request that the reader has and writes its reply. Returns the fault if
+/// its bytes are no request, or `None` if the rest may still become one. Fails if a reply could not
+/// be written.
 fn answer_all<W: Write, H: Holds, S: Stacks>(
     output: &mut Counted<W>,
     wire: &mut RequestReader,
@@ -75,8 +73,7 @@ fn answer_all<W: Write, H: Holds, S: Stacks>(
     }
 }
 
-/// Serves the requests of a stream until it ends, its bytes are no request, or a read or write
-/// fails.
+/// Serves requests until the stream ends, its bytes are no request, or a read or write fails.
 fn converse<R: Read, W: Write, H: Holds, S: Stacks>(
     input: &mut Counted<R>,
     output: &mut Counted<W>,
@@ -106,14 +103,10 @@ fn converse<R: Read, W: Write, H: Holds, S: Stacks>(
 }
 
 /// Serves one stream of requests: carries out the requests in order, writes the replies, then ends
-/// the session.
+/// the session. `drives` must match the session, and `wire` must hold no unread bytes.
 ///
-/// The stream ends between two requests (`End`), inside a request (`Truncated`), which is not
-/// carried out, or at bytes that are no request (`Broken`). Fails with `Input` if a read failed,
-/// and with `Output` if a write failed or accepted none of some bytes.
-///
-/// In every case what was open is closed. It allocates nothing itself, and reads directly into the
-/// reader's buffer.
+/// Returns how the stream ended, or fails with the stream that failed. In every case what was open
+/// is closed. It allocates nothing itself, and reads directly into the reader's buffer.
 pub fn serve<R: Read, W: Write, H: Holds, S: Stacks>(
     input: &mut Counted<R>,
     output: &mut Counted<W>,
@@ -121,34 +114,11 @@ pub fn serve<R: Read, W: Write, H: Holds, S: Stacks>(
     session: &mut Session<H, S>,
     drives: &mut DriveTable<H, S>,
 ) -> Result<Served, ServeFault>
-    // the drives match the session: its seat belongs to them, and what is open is theirs
     requires at { IsAt (kinds H.Holds S.Stacks S.Reel.Reel) (state drives.old session.old) }
-    // the reader holds no unread bytes
     requires empty { Unread wire.old [] }
-    // `serve` carries out the requests that it reads, one after the other. It writes only the
-    // replies to these requests, in order. The protocol can express each reply in bytes.
-    //
-    // If a write failed, only a beginning of the last reply was written, and no further request was
-    // carried out.
-    //
-    // `serve` ends in five cases: the input ends between two requests, the input ends inside a
-    // request, the bytes are no request, a read fails, or a write fails. The result of `serve` says
-    // which case it was.
-    //
-    // If the content of the stacks and of the open reel is known, the requests and replies make a
-    // sequence of serve steps (field `steps`). If no device can fail at the start, no device fails
-    // in these steps. If it is known at the start that no other seat holds a drive, no open in
-    // these steps finds a busy drive.
-    //
-    // `serve` assigns no seat number (field `same_seats`). The session's seat keeps its number
-    // (field `number`).
-    //
-    // However the stream ends, `serve` closes what the session has open.
     ensures served { ServesAs (kinds H.Holds S.Stacks S.Reel.Reel) R.Read W.Write result
         (serving input.old output.old drives.old session.old) (serving input.new output.new drives.new session.new) }
-    // If `serve` returns `Ok`, no read and no write failed.
     ensures steady { OnOk result (NoneFailed (streams input.old output.old) (streams input.new output.new)) }
-    // However the stream ends, `serve` closes what the session has open.
     ensures nothing { session.new.opened ≡ None }
 {
     let ending = converse(input, output, wire, session, drives);

@@ -1,7 +1,7 @@
 -- Exit statuses as numbers. Public contracts cite it.
 use Rattle.std.specs.Prelude.{◌≡◌, ℕ}
-use Rattle.exit_status.specs.Status.{status_code}
-use Rattle.exit_status.specs.declared.status.ExitStatus.{ExitStatus}
+use Rattle.console.specs.Status.{status_code}
+use Rattle.console.specs.declared.status.ExitStatus.{ExitStatus}
 
 -- the number of an exit status for which this holds
 abbrev pub HasCode : (ExitStatus → Type 0) → ℕ → Type 0

@@ -1,5 +1,5 @@
 //! The calls that end a command, with the number of their exit status.
-ghost use Rattle.rdump_files.specs.Dates.{IsDates, plain_asked};
+ghost use Rattle.dump_files.specs.Dates.{IsDates, plain_asked};
 ghost use Rattle.rdump_net.specs.Ends.{copy_ends, copy_kind, stream_ends, stream_kind};
 ghost use Rattle.rdump_net.specs.Lines.{IsDumped};
 ghost use Rattle.rdump_net.specs.Operation.{IsMt};
@@ -26,7 +26,6 @@ pub fn dump<B: Blocks, P: Peer, R: Read, W: Write>(
     operator: &mut R,
     out: &mut Counted<W>,
 ) -> u8
-    // The call keeps the promises of `rdump_net::dump`, and returns the exit status as a number.
     ensures talks { TalksOver B.holds FromAny P.tells client.old client.new peer.old peer.new }
     ensures printed { HasCode (IsDumped W.contents client.old.at.counts client.new.at out.old out.new) result }
 {
@@ -43,8 +42,6 @@ pub fn read_volume<P: Peer, F: Write, W: Write>(
     out: &mut Counted<W>,
 ) -> u8
     requires { IsLine device.now }
-    // The call keeps the promises of `rdump_net::read_volume`, and returns the exit status as a
-    // number.
     ensures { HasCode (IsReadStatus (copy_kind P.tells F.contents W.contents) device.now
         (copy_ends peer.old file.old out.old) (copy_ends peer.new file.new out.new)) result }
 {
@@ -65,14 +62,13 @@ pub fn mt<P: Peer, W: Write>(
     requires device { IsLine device.now }
     requires op { op ≤ NUMBER_LIMIT }
     requires count { count ≤ NUMBER_LIMIT }
-    // The call keeps the promises of `rdump_net::mt`, and returns the exit status as a number.
     ensures { HasCode (IsMt (stream_kind P.tells W.contents) device.now op count
         (stream_ends peer.old out.old) (stream_ends peer.new out.new)) result }
 {
     rdump_net::mt(alloc, peer, device, op, count, out).code()
 }
 
-/// Prints on `out` what `rdump dates` prints for a dumpdates file, as `rdump_files::dates` does.
+/// Prints on `out` what `rdump dates` prints for a dumpdates file, as `dump_files::dates` does.
 /// Returns the exit status of `rdump dates`: 0 if the answer was printed, else 1.
 pub fn dates<W: Write>(
     alloc: Global,
@@ -80,17 +76,14 @@ pub fn dates<W: Write>(
     asked: Option<(&str, u8)>,
     out: &mut Counted<W>,
 ) -> u8
-    // The call keeps the promises of `rdump_files::dates`, and returns the exit status as a number.
     ensures { HasCode (IsDates W.contents file.now (plain_asked asked.entry) out.old out.new) result }
 {
-    rdump_files::dates(alloc, file, asked, out).code()
+    dump_files::dates(alloc, file, asked, out).code()
 }
 
 /// Runs a schedule, as `rsim_schedule::schedule` does. Returns the exit status of `rsim`: 0 if all
 /// lines were run, 1 if a line is faulty, and 3 if an allocation or a write failed.
 pub fn schedule<W: Write>(alloc: Global, text: &[u8], out: &mut Counted<W>) -> u8
-    // The call keeps the promises of `rsim_schedule::schedule`, and returns the exit status as a
-    // number.
     ensures { HasCode (λ status. IsScheduled W.contents out.old status out.new) result }
 {
     rsim_schedule::schedule(alloc, text, out).code()

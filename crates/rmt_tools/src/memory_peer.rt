@@ -52,10 +52,7 @@ impl MemoryPeer {
     /// Returns None if an allocation fails, or if no number is left for a session.
     pub fn new(alloc: Global, drives: DriveTable<LocalHolds, ListStacks>) -> Option<MemoryPeer>
         requires { length drives.stacks.library.drives ≤ length drives.holds.numbers }
-        // The log of the new peer is empty.
         ensures tells { IfSome result (λ p. IsLogOf p.log []) }
-        // The new peer has the stacks, the bin and the reels of the given drives. The call does not
-        // change who holds a drive. The new peer's session has no drive open.
         ensures made { IfSome result (λ p. IsMadeOf drives p) }
     {
         let far = FarEnd::new(alloc, drives)?;
@@ -70,8 +67,7 @@ impl MemoryPeer {
     /// Returns the stacks of the peer's drives, and the bin, with their reels. For a reel that a
     /// session has open, only its name is there.
     pub fn stacks(&self) -> &ListStacks
-        // Returns the stacks of the peer's drives, and the bin. The types allow no other body, so
-        // no wrong body is tried.
+        // The types allow no other body, so no wrong body is tried.
         ensures { result.now ≡ self.now.drives.stacks }
     {
         &self.far.drives.stacks
@@ -79,9 +75,6 @@ impl MemoryPeer {
 
     /// Ends the peer's session, and returns the peer's drives. Another peer can be made with them.
     pub fn into_drives(self) -> DriveTable<LocalHolds, ListStacks>
-        // If the session has a drive open, the call first closes this drive. In every case, the
-        // call returns the peer's drives, with the table that says who holds each drive. The table
-        // has at least as many entries as there are drives.
         ensures apart { IsTakenApart self result }
         ensures enough { length result.stacks.library.drives ≤ length result.holds.numbers }
     {
@@ -99,7 +92,6 @@ impl MemoryPeer {
     }
 
     /// Makes a connection with a session of its own, and logs it. An earlier connection is dropped.
-    /// Returns whether it could; if not, nothing is logged.
     fn open(&mut self) -> bool
         ensures told { Logs IsLogOf self.old.log self.new.log (events_if result (Connected ∷ [])) }
         ensures fresh { self.new.session.opened ≡ None }
@@ -132,15 +124,7 @@ fn take_front(bytes: &mut Vec<u8>, into: &mut [u8]) -> usize
 }
 
 impl Peer for MemoryPeer {
-    // connect, told, send, receive, hang_up, log: The log contains each connection that was made,
-    // the bytes that were sent, and the bytes that were received. If a call notices that the
-    // connection ended, the call adds the event `Ended` to the log. `hang_up` does not change the
-    // log. No clause says which call notices an end.
-    //
-    // connect, fresh, cleared: If the session of the previous connection has a drive open,
-    // `connect` closes this drive. After `connect`, the peer's session has no drive open.
-    //
-    // hang_up, closed: If the peer's session has a drive open, `hang_up` closes this drive.
+    // No clause says which call notices an end of the connection.
 
     ghost use Rattle.rmt_tools.specs.Telling.{IsLogOf};
 
@@ -161,7 +145,8 @@ impl Peer for MemoryPeer {
     }
 
     /// Returns false if there is no connection, or if earlier bytes that are no request ended it.
-    /// Returns false too if an allocation for the log or for a reply fails.
+    /// Returns false too if an allocation for the log or for a reply fails, or if no reply can have
+    /// the count of an operation.
     fn send(&mut self, bytes: &[u8]) -> bool {
         if !self.is_open {
             self.cut();

@@ -106,10 +106,12 @@ pub record IsReadNext (left left' : Option (List ℕ)) (reads reads' : ℕ) (old
   pub consumed : Consumes left left' came
   pub gives_on : (pushed : List ℕ) (requests : List PlainRequest) → IsGiven old pushed requests
       → GivesNext result left' new (pushed ++ came) requests
+  -- for a proof about a loop over `read_next`, which needs no lists of requests and replies
   pub answers : (answer : PlainRequest → List ℕ) (first output output' : Option (List ℕ)) → HasAnswered answer first left old output output'
       → GoesOn result answer first left' new output output'
   pub unread : (bytes : List ℕ) × Unread new bytes
   pub spelled : IsSpelledIfSome result
+  -- so a loop over `read_next` ends
   pub falls : FallsIfSome result (most_left reads old) (most_left reads' new)
 
 -- a failure was counted if and only if the result is `Input`

@@ -5,10 +5,7 @@ ghost use Rattle.std.specs.Vec.{vec_capacity, vec_len};
 
 use std::alloc::AllocError;
 
-/// Appends `first`, then `second`, or neither. Together they have at most 2147483659 bytes.
-///
-/// Fails only if `out` has less spare capacity than both take and an allocation fails. Then `out`
-/// and its capacity are unchanged.
+/// Appends both texts, or neither if an allocation fails.
 pub fn push_text(out: &mut Vec<u8>, first: &[u8], second: &[u8]) -> Result<(), AllocError>
     requires { length first.now + length second.now ≤ 2147483659 }
     ensures appended { OnOk result (out.new.items ≡ out.old.items ++ (first.now ++ second.now)) }

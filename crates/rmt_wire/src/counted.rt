@@ -1,4 +1,4 @@
-//! Readers and writers whose failures are counted.
+//! Streams whose failures are counted.
 
 ghost use Rattle.std.specs.Prelude.{◌≡◌, ◌+◌, ◌-◌, ◌<◌, length, IfOk, OnOk, OnErr, MatchResult};
 ghost use Rattle.std.specs.Io.{ReadsAtMost, WritesAtMost};
@@ -8,10 +8,8 @@ ghost use Rattle.rmt_wire.specs.Counted.{raised};
 use std::io::{self, ErrorKind, Read, Write};
 use std::marker::Model;
 
-/// A reader or writer that counts its failures.
-///
-/// Each failed read, each failed write, and each write of one byte or more that accepts none counts
-/// as one failure. The count stays at `u64::MAX`. A flush is passed on and never counted.
+/// A reader or writer that counts its failures: each failed read or write, and each write of one
+/// byte or more that accepts none. The count stays at `u64::MAX`. Flushes are not counted.
 ///
 /// `u64::MAX` reads are passed on. Each later read fails without calling the inner reader, and is
 /// counted.
@@ -34,11 +32,8 @@ impl<T> Model for Counted<T> {
 }
 
 impl<T> Counted<T> {
-    /// Wraps the stream `inner` in a new `Counted`. The count of failures is 0, and `u64::MAX`
-    /// reads remain.
+    /// Wraps a stream, with no failure counted and `u64::MAX` reads left.
     pub fn new(inner: T) -> Self
-        // The new `Counted` wraps the given stream and has counted no failure. The `Counted` allows
-        // `u64::MAX` reads.
         ensures inner { result.inner ≡ inner }
         ensures failures { result.failures ≡ 0 }
         ensures left { result.left ≡ u64.MAX }
@@ -50,11 +45,8 @@ impl<T> Counted<T> {
         }
     }
 
-    /// Returns how many failures the `Counted` has counted. A `Counted` counts reads and writes
-    /// that failed, and writes that were given bytes but accepted none. The count stays at
-    /// `u64::MAX`.
+    /// Returns how many failures were counted.
     pub fn failures(&self) -> u64
-        // `failures` returns the count of failures.
         ensures { result ≡ self.now.failures }
     {
         self.failures
@@ -62,8 +54,7 @@ impl<T> Counted<T> {
 
     /// Returns the wrapped reader or writer.
     pub fn into_inner(self) -> T
-        // `into_inner` returns the wrapped stream. The types allow no other body, so no wrong body
-        // is tried.
+        // The types allow no other body, so no wrong body is tried.
         ensures { result ≡ self.inner }
     {
         self.inner
@@ -71,25 +62,8 @@ impl<T> Counted<T> {
 }
 
 impl<R: Read> Read for Counted<R> {
-    // bound, bytes: A successful read copies the next bytes of the stream into the caller's buffer,
-    // at most as many as fit. If the caller's buffer has a length above 0, a read returns 0 only at
-    // the end of the stream. A failed read takes no bytes from the stream.
-    //
-    // failures: The `Counted` counts a failure for each failed read, and for no other read.
-    //
-    // lowered: Each read lowers by one the number of reads that the `Counted` still allows. This
-    // number does not fall below 0.
-    //
-    // left, spent: If the `Counted` allows no more reads, a read fails and leaves the wrapped
-    // stream untouched.
-    //
-    // While the `Counted` still allows reads, each read calls the wrapped stream once. This call
-    // asks for as many bytes as fit into the caller's buffer. The read returns what this call
-    // returns. No clause states these facts, because the contracts of the standard library do not
-    // count the calls of a stream. The test `failed_reads_are_counted` of `rmt_wire_tests` wraps a
-    // stream that counts its calls. The test fails for a body of `read` that reports a failure
-    // without a call or makes a second call. The test also fails for a body that reads one byte
-    // although more fit.
+    // While reads are left, each read is one call with the whole buffer. No contract counts calls;
+    // the test `failed_reads_are_counted` does.
 
     ghost remaining = { λ c. R.remaining c.inner };
 
@@ -116,27 +90,8 @@ impl<R: Read> Read for Counted<R> {
 }
 
 impl<W: Write> Write for Counted<W> {
-    // bound, bytes: A successful write appends a prefix of the given bytes to the stream, and
-    // returns the length of the prefix. A failed write appends nothing.
-    //
-    // failed, took_none, took_some: The `Counted` counts a failure for each failed write, and for
-    // each write that is given bytes but accepts none. The `Counted` counts no failure for a write
-    // that accepts at least one byte.
-    //
-    // nothing_to_take: The `Counted` counts no failure for a successful write that is given no
-    // bytes.
-    //
-    // left: Writes and flushes do not change the number of reads that the `Counted` still allows.
-    //
-    // bytes, failures: A flush appends no bytes and counts no failure.
-    //
-    // Each write and each flush calls the wrapped stream once. A write passes all the given bytes
-    // to the wrapped stream. No clause states these facts, because no contract counts the calls of
-    // a stream. Three tests of `rmt_wire_tests` wrap a stream that counts its calls. These tests
-    // are `numbers`, `data_of_few_bytes` and `nothing_is_written_after_a_failed_write`. The tests
-    // fail for a body that reports a failure without a call, or writes only one of many bytes. The
-    // tests also fail for a body that calls the stream again after a failed call, or does not pass
-    // a flush to the stream.
+    // Each write and each flush is one call, with all bytes of a write. The tests `numbers`,
+    // `data_of_few_bytes` and `nothing_is_written_after_a_failed_write` count calls.
 
     ghost contents = { λ c. W.contents c.inner };
 
@@ -169,7 +124,6 @@ impl<W: Write> Write for Counted<W> {
     }
 }
 
-// Returns the count after one more failure. It stays at `u64::MAX`.
 fn raise(failures: u64) -> u64
     ensures { result ≡ raised failures }
 {

@@ -1,15 +1,13 @@
-//! The access modes of an open, by fcntl's numbers. The access is the number of the open's mode
-//! modulo `ACCESS_MODES`. Every crate imports them from here.
+//! The access modes of an open, by fcntl's numbers.
 
-/// Read only (fcntl).
+/// Read only.
 pub const O_RDONLY: u32 = 0;
 
-/// Write only (fcntl).
+/// Write only.
 pub const O_WRONLY: u32 = 1;
 
-/// Read and write (fcntl).
+/// Read and write.
 pub const O_RDWR: u32 = 2;
 
-/// A mode modulo this number is its access. The last remainder, 3, is not a valid access. Higher
-/// bits of a mode are ignored.
+/// A mode modulo this number is its access. 3 is not valid. Higher bits are ignored.
 pub const ACCESS_MODES: u32 = 4;

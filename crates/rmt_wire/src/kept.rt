@@ -1,6 +1,4 @@
-//! The buffer of a reader, which is reserved once. Pushed bytes are copied into it, and a stream is
-//! read straight into it, as are bytes that are received. Its bytes are moved to the front only if
-//! room is needed, or before a read.
+//! The buffer of a reader, which is reserved once.
 ghost use Rattle.std.specs.Prelude.{◌≡◌, ◌+◌, ◌-◌, ◌<◌, ◌≤◌, ℕ, List, ◌++◌, length, take, drop, IfOk, OnOk, OnErr};
 ghost use Rattle.std.specs.Io.KnownBytes.{Consumes, Keeps, IsAtEnd};
 ghost use Rattle.rmt_wire.specs.Counted.{raised};
@@ -11,8 +9,6 @@ use crate::limits::READER_LIMIT;
 use bytes::BytesMut;
 use std::io::{self, Read};
 
-/// Removes `count` bytes from index `at` on, and keeps the capacity. If `count` is 0, no byte
-/// moves.
 pub fn remove(buffer: &mut BytesMut, at: usize, count: usize)
     requires { at + count ≤ length buffer.old.items }
     ensures items { buffer.new.items ≡ take at buffer.old.items ++ drop (at + count) buffer.old.items }
@@ -26,8 +22,8 @@ pub fn remove(buffer: &mut BytesMut, at: usize, count: usize)
     buffer.truncate(len - count);
 }
 
-/// Appends a piece after the bytes kept, which begin at index `start`. If the buffer lacks room at
-/// its end, the bytes kept are moved to the front first. Returns the index at which they begin now.
+/// Appends a piece. If room is lacking, first moves the bytes kept to the front. Returns where they
+/// begin now.
 pub fn append(buffer: &mut BytesMut, start: usize, piece: &[u8]) -> usize
     requires start { start ≤ length buffer.old.items }
     requires room { length buffer.old.items - start + length piece.now ≤ READER_LIMIT }
@@ -45,9 +41,7 @@ pub fn append(buffer: &mut BytesMut, start: usize, piece: &[u8]) -> usize
     0
 }
 
-/// Reads a stream once, up to `most` bytes, straight into the buffer, after the bytes kept. Returns
-/// how many bytes came. If the read fails, the bytes kept are unchanged, and `stream` counts the
-/// failure.
+/// Reads a stream once, up to `most` bytes, straight into the buffer. Returns how many came.
 pub fn append_read<R: Read>(
     buffer: &mut BytesMut,
     most: usize,
@@ -79,8 +73,8 @@ pub fn append_read<R: Read>(
     }
 }
 
-/// Calls `receive` once, with a room of `size` bytes after the bytes kept. Appends what it puts
-/// there. Returns how many bytes that are: what `receive` returns, but at most `size`.
+/// Calls `receive` once, with a room of `size` bytes at the end. Returns how many came, at most
+/// `size`.
 pub fn append_received<F: FnMut(&mut [u8]) -> usize>(
     buffer: &mut BytesMut,
     size: usize,

@@ -1,25 +1,15 @@
-//! The wire format of the remote magtape protocol, rmt(8): how requests and replies are written and
-//! read.
+//! The wire format of the remote magtape protocol, rmt(8), with its limits and the numbers of
+//! `mtio`, `fcntl` and `errno`.
 //!
-//! For a server: `RequestReader` splits a stream into requests, whatever pieces it comes in, and
-//! its `read_next` reads a stream up to the next request. `write_reply` writes a reply, and
-//! `Counted` counts the failures of both streams. For a client: `push_request` appends a request,
-//! and `ReplyReader` returns the reply that the client waits for. `push_reply` appends a reply.
-//!
-//! For programs: `print_text` prints a whole text, `find_byte` finds a byte, and `argument` reads
-//! device names and numbers from their arguments.
-//!
-//! Numbers that more than one crate uses are defined here: the limits, and the modules `mtio`,
-//! `fcntl` and `errno`.
+//! For a server: `RequestReader` splits a stream into requests, `write_reply` writes a reply, and
+//! `Counted` counts the failures of a stream. For a client: `push_request` and `ReplyReader`. For
+//! programs: `print_text`, `find_byte` and `argument`.
 //!
 //! # Contracts
 //!
-//! The page docs/PROTOCOL.md says which bytes stand for each request and each reply. These bytes
-//! *spell* the request or the reply. A reader (`RequestReader` or `ReplyReader`) keeps the bytes of
-//! a stream in a buffer of fixed size. A byte that entered a reader is *unread* until `next`
-//! returns the request or reply that contains the byte. A reader *lends* data or a text by
-//! returning a reference to bytes in the reader's buffer. A `Counted` wraps a stream, counts the
-//! stream's failures, and limits the number of reads.
+//! docs/PROTOCOL.md says which bytes *spell* a request or a reply. A reader keeps bytes of a stream
+//! in its buffer, of fixed size. They are *unread* until `next` returns the request or reply that
+//! contains them. A reader *lends* data or a text as a reference into its buffer.
 #![tactic(auto)]
 
 mod append;

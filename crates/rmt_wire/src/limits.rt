@@ -1,17 +1,14 @@
-//! The limits of the wire format for numbers, lines and records, and the size of a reader's buffer.
-//! Every crate imports them from here.
+//! The limits of the wire format.
 
 /// The largest number in a request or a reply.
 pub const NUMBER_LIMIT: u32 = 2147483647;
 
-/// The largest size in bytes of a device, mode or close line, without its line feed. The text of an
-/// error is written up to this size, and a reader keeps this many bytes of a longer one.
+/// The most bytes in a device, mode or close line, without its line feed, and in an error's text.
 pub const LINE_LIMIT: usize = 255;
 
-/// The largest size in bytes of a record, and so of a block of a dump. The data of a longer write
-/// are dropped, and a reader of replies waits for no more.
+/// The most bytes in a record, and so in a block of a dump. The data of a longer write are dropped,
+/// and a `ReplyReader` waits for no more.
 pub const RECORD_LIMIT: usize = 262144;
 
-/// The size in bytes of a reader's buffer. It holds the largest write that is kept, or the largest
-/// reply with data that is waited for. Either is a letter, ten digits, a line feed and the data.
+/// The size in bytes of a reader's buffer: a letter, ten digits, a line feed and a record.
 pub const READER_LIMIT: usize = RECORD_LIMIT + 12;

@@ -6,23 +6,19 @@ ghost use Rattle.rmt_wire.specs.Parsed as spec;
 use crate::fault::WireFault;
 use crate::limits::NUMBER_LIMIT;
 
-/// The most digits that a number may have.
 const MOST_DIGITS: usize = 10;
 
-/// The line that a number is on. It decides which bytes end the number, and which values are too
-/// large.
+/// The line that a number is on.
 #[derive(Clone, Copy)]
 pub enum Place {
-    /// A line with the number alone.
     Line,
-    /// The front of a mode line, where a space ends the number too.
+    /// A mode line, where a space ends the number too.
     Mode,
-    /// The line of a reply with data. It holds how many bytes are wanted at most.
+    /// The line of a reply with data, with the most bytes that are wanted.
     Data(u32),
 }
 
 impl Place {
-    /// Whether this byte ends a number on the line.
     fn ends_number(self, byte: u8) -> bool
         ensures { result ≡ spec.ends_number self byte }
     {
@@ -32,8 +28,6 @@ impl Place {
         }
     }
 
-    /// Whether this number is greater than the line allows. Only a line of a reply with data has
-    /// such a limit.
     fn is_too_much(self, value: u64) -> bool
         ensures { result ≡ spec.is_too_much self value }
     {
@@ -44,8 +38,7 @@ impl Place {
     }
 }
 
-/// Returns the number that the bytes begin with, and how many digits it has. The byte that ends it
-/// is the next one. Returns None if the bytes are digits with no end yet.
+/// Returns the number and how many digits it has, or None if it has not ended.
 pub fn number_front(bytes: &[u8], place: Place) -> Result<Option<(u32, usize)>, WireFault>
     ensures value { result ≡ spec.number_front place bytes.now }
     ensures within { IfOk result (λ o. IfSome o (λ n. n.1 < length bytes.now)) }

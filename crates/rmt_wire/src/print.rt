@@ -5,12 +5,9 @@ use crate::counted::Counted;
 use crate::reply::output;
 use std::io::Write;
 
-/// Prints a text to a stream that counts its failures, and returns whether the whole text was
-/// printed. If a write fails or accepts no byte, it returns false: a beginning of the text was
-/// printed, and the failure is counted.
+/// Prints a text, and returns whether all of it was printed. If not, a beginning of it was, and the
+/// failed or empty write is counted.
 pub fn print_text<W: Write>(out: &mut Counted<W>, text: &[u8]) -> bool
-    // If `print_text` returns true, it printed the whole text and counted no failure. If
-    // `print_text` returns false, it printed a prefix of the text and counted a failure.
     ensures { IsPrinted W.contents text.now out.old out.new result }
 {
     match output(out, text) {

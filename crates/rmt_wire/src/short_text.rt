@@ -1,4 +1,4 @@
-//! A short text on the stack: the head of a request or a reply, or a whole error.
+//! A short text on the stack.
 
 ghost use Rattle.std.specs.Prelude.{◌≡◌, ◌+◌, ◌<◌, ◌≤◌, [], ◌∷◌, ◌++◌, length, decimal};
 ghost use Rattle.rmt_wire.specs.Number.{line_feed};
@@ -7,10 +7,9 @@ use crate::limits::{LINE_LIMIT, NUMBER_LIMIT};
 use itoa::Buffer;
 use std::marker::Model;
 
-// The size of a letter, ten digits, a line feed, the text of an error, and a line feed.
+// A letter, ten digits, a line feed, an error's text, and a line feed.
 const TEXT_ROOM: usize = LINE_LIMIT + 13;
 
-// A short text on the stack.
 #[derive(Drop)]
 pub(crate) struct ShortText {
     bytes: [u8; TEXT_ROOM],
@@ -29,7 +28,6 @@ impl Model for ShortText {
 }
 
 impl ShortText {
-    /// Makes an empty text.
     pub(crate) fn new() -> Self
         ensures { result ≡ [] }
     {
@@ -39,14 +37,12 @@ impl ShortText {
         }
     }
 
-    /// Returns the bytes of the text.
     pub(crate) fn as_slice(&self) -> &[u8]
         ensures { result.now ≡ self.now }
     {
         &self.bytes[..self.end]
     }
 
-    /// Appends a byte, for which there must be room.
     pub(crate) fn push_byte(&mut self, byte: u8)
         requires { length self.old < TEXT_ROOM }
         ensures { self.new ≡ self.old ++ byte ∷ [] }
@@ -55,7 +51,6 @@ impl ShortText {
         self.end += 1;
     }
 
-    /// Appends these bytes, for which there must be room.
     pub(crate) fn push_slice(&mut self, text: &[u8])
         requires { length self.old + length text.now ≤ TEXT_ROOM }
         ensures { self.new ≡ self.old ++ text.now }
@@ -66,7 +61,6 @@ impl ShortText {
     }
 }
 
-// Returns a letter, a number and a line feed.
 #[tactic(auto, using(crate::proofs::Spelling::short_heads))]
 pub(crate) fn numbered(letter: u8, number: usize) -> ShortText
     requires { number ≤ NUMBER_LIMIT }
@@ -81,7 +75,6 @@ pub(crate) fn numbered(letter: u8, number: usize) -> ShortText
     line
 }
 
-// Appends a number and a line feed.
 #[tactic(auto, using(crate::proofs::Spelling::short_heads))]
 pub(crate) fn push_number(line: &mut ShortText, number: u32)
     requires limit { number ≤ NUMBER_LIMIT }

@@ -10,11 +10,8 @@ use std::fmt;
 pub(crate) enum BrokenRule<'a> {
     /// Neither or both of `--stdio` and `--listen` are given.
     StdioOrListen,
-    /// The capacity is not a number.
     Capacity,
-    /// The number of connections is not a number.
     Connections,
-    /// The limit for idle connections is not a number.
     Idle,
     /// A limit for idle connections is given, and `--listen` is not.
     IdleWithStdio,
@@ -29,7 +26,6 @@ pub(crate) enum BrokenRule<'a> {
 }
 
 impl BrokenRule<'_> {
-    /// Returns the kind of clap's error.
     pub(crate) fn kind(self) -> ErrorKind
         ensures { ¬ (IsShown result) }
     {

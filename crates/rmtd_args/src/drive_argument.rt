@@ -47,8 +47,6 @@ fn split<'a>(argument: &'a str) -> DriveArgument<'a>
     DriveArgument { device, folder }
 }
 
-/// Whether an argument names a drive and a folder: a device of 1 to 255 bytes of one line, and a
-/// folder that is not empty.
 fn is_drive(argument: &str) -> bool
     ensures { IsTrue result ↔ IsDrive (split_of argument.now) }
 {
@@ -108,7 +106,6 @@ fn named_again<'a>(arguments: &[&'a str]) -> Option<&'a str>
     None
 }
 
-/// Whether one of the arguments names this device.
 fn any_names(arguments: &[&str], device: &str) -> bool
     ensures { result ≡ list_any (λ w. bytes_eq (split_of w.now).device device.now) arguments.now }
 {

@@ -1,6 +1,4 @@
-//! The arguments of `rmtd`.
-//!
-//! `rmtd` is clap's description of the command.
+//! The arguments of `rmtd`. The variable `rmtd` is clap's description of the command.
 
 ghost use Rattle.std.specs.Prelude.{◌≡◌, map, codes, false, [], IfOk, IfErr, IsErrOf, MatchOption, MatchResult, option_map};
 ghost use Rattle.clap.specs.Words.{App, HasKind, app_of, first_of, found_of, kind_of, new_app, rows_of, rule_of, with_rule};
@@ -68,26 +66,7 @@ pub fn server_words<'a>(
     alloc: Global,
     arguments: &'a [&'a str],
 ) -> Result<ServerLine<'a>, LineFault>
-    // A *line* (`ServerLine`) contains the parsed arguments. If the call returns a line, clap (the
-    // argument parser) accepts the arguments. The line has the values that clap found in the
-    // arguments. The line says whether `--stdio` was given. The line has each given text unchanged.
-    // Each number that was given is in the line as the value of its digits, and is at most
-    // 9223372036854775807. If no capacity is given, the capacity is 1,048,576. Exactly one of
-    // `--stdio` and `--listen` was given.
-    //
-    // Each argument that is not an option describes one drive. The line has these drives in the
-    // order of the arguments. Each of these arguments is split at its first `=`. The text before
-    // the `=` is the device, and the text after the `=` is the folder. Each device has 1 to 255
-    // bytes and no line feed, and the name of each folder is not empty (`KeepsDriveRules`). No two
-    // drives have the same device. There are at most 64 drives. If there is a drive, `--bin` was
-    // given.
-    //
-    // The line's limit for idle connections (`--idle`) is the given number of seconds. If the
-    // number is 0, or no number is given, there is no limit. `--idle` was not given together with
-    // `--stdio`.
     ensures line { IfOk result (IsLineOf (map (λ s. s.now) arguments.entry.now)) }
-    // The call returns `BadWords` (the arguments are bad) in two cases only. Either clap refuses
-    // the arguments, or the values that clap found break a rule of the clause `line`.
     ensures refused { IsErrOf result LineFault.BadWords → AreBadArguments (map (λ s. s.now) arguments.entry.now) }
 {
     match server_line(alloc, arguments) {
@@ -103,18 +82,10 @@ pub fn server_words<'a>(
 /// The error's kind is `OutOfMemory` if an allocation failed. If clap refuses the arguments, the
 /// kind is one with which clap refuses them.
 pub fn server_line<'a>(alloc: Global, arguments: &'a [&'a str]) -> Result<ServerLine<'a>, Error>
-    // If the call returns a line, the line is as the clause `line` of `server_words` promises.
     ensures line { IfOk result (IsLineOf (map (λ s. s.now) arguments.entry.now)) }
-    // Suppose that the call returns an error whose kind is not `OutOfMemory`. Then clap refuses the
-    // arguments, or the values that clap found break a rule of the clause `line` of `server_words`.
     // No clause says which text an error has.
     ensures refused { IfErr result (λ e. ¬ (kind_of e ≡ ErrorKind.OutOfMemory) → AreBadArguments (map (λ s. s.now) arguments.entry.now)) }
-    // The call returns clap's help or version as the error only if the arguments ask for the help
-    // or the version.
     ensures shown { IfErr result (λ e. IsShown (kind_of e) → AskToBeShown (map (λ s. s.now) arguments.entry.now)) }
-    // Suppose that clap refuses the arguments, or that the arguments ask for the help or the
-    // version. Then the returned error has the kind `OutOfMemory`, or a kind of error that clap
-    // returns for these arguments.
     ensures kinds { IfErr result (λ e. ¬ (faults_in (map (λ s. s.now) arguments.entry.now) ≡ [])
         → HasKind (faults_in (map (λ s. s.now) arguments.entry.now)) e) }
 {
@@ -124,7 +95,6 @@ pub fn server_line<'a>(alloc: Global, arguments: &'a [&'a str]) -> Result<Server
     }
 }
 
-/// Returns the line that the arguments give to this command. Fails with clap's error for the user.
 fn line_with<'a>(
     alloc: Global,
     rmtd: &mut Command<'a>,
@@ -141,8 +111,6 @@ fn line_with<'a>(
     line_or_refusal(alloc, rmtd, &matches)
 }
 
-/// Returns the command line in clap's matches. If they break a rule, fails with the error for the
-/// user.
 fn line_or_refusal<'a>(
     alloc: Global,
     rmtd: &mut Command<'a>,
@@ -158,7 +126,6 @@ fn line_or_refusal<'a>(
     }
 }
 
-/// Has clap match the arguments. Fails with clap's error.
 fn matched<'a>(rmtd: &mut Command<'a>, arguments: &'a [&'a str]) -> Result<ArgMatches<'a>, Error>
     requires { app_of rmtd.old ≡ app }
     ensures rows { IfOk result (λ m. rows_of (found_of m) ≡ matches_in (map (λ s. s.now) arguments.entry.now)) }
@@ -170,8 +137,7 @@ fn matched<'a>(rmtd: &mut Command<'a>, arguments: &'a [&'a str]) -> Result<ArgMa
     rmtd.try_get_matches_from_mut(arguments)
 }
 
-/// Returns the error for the user if clap accepts the arguments but they break a rule. Fails if an
-/// allocation fails.
+/// Returns the error for arguments that clap accepts, but that break a rule.
 fn refusal(
     alloc: Global,
     rmtd: &mut Command<'_>,
@@ -193,8 +159,7 @@ fn fault_from(error: &Error) -> LineFault
     }
 }
 
-/// Returns the command line in clap's matches, or the rule that they break. Fails if an allocation
-/// fails.
+/// Returns the line, or the rule that the matches break. Fails if an allocation fails.
 fn line_from_matches<'a>(
     alloc: Global,
     matches: &ArgMatches<'a>,
@@ -207,8 +172,6 @@ fn line_from_matches<'a>(
     Ok(checked_line(matches, given.as_slice(), drives))
 }
 
-/// Returns the command line in clap's matches, or the rule that they break. `given` are the
-/// arguments that are not options, and `drives` are the drives that these give.
 fn checked_line<'a>(
     matches: &ArgMatches<'a>,
     given: &[&'a str],
@@ -251,7 +214,6 @@ fn checked_line<'a>(
     })
 }
 
-/// Whether `--stdio` is given.
 fn stdio_of(matches: &ArgMatches<'_>) -> bool
     ensures { result ≡ has_stdio (rows_of (found_of matches.now)) }
 {
@@ -278,8 +240,7 @@ fn drive_arguments<'a>(alloc: Global, matches: &ArgMatches<'a>) -> Result<Vec<&'
     }
 }
 
-/// Returns the capacity that this text gives, the default if there is no text, or None if it is not
-/// a number.
+/// Returns the default without a text, and None if the text is not a number.
 fn capacity_of(text: Option<&str>) -> Option<u64>
     ensures { MatchOption result (¬ (IsNumberIfGiven (option_map (λ s. s.now) text.entry)))
         (ReadsCapacity (option_map (λ s. s.now) text.entry)) }
@@ -290,8 +251,6 @@ fn capacity_of(text: Option<&str>) -> Option<u64>
     }
 }
 
-/// Returns the limit of connections that this text gives, or None if there is no text. Fails if the
-/// text is not a number.
 fn connections_of(text: Option<&str>) -> Result<Option<u64>, BrokenRule<'static>>
     ensures { MatchResult result (IsConnectionLimit (option_map (λ s. s.now) text.entry))
         (λ _. ¬ (IsNumberIfGiven (option_map (λ s. s.now) text.entry))) }
@@ -305,8 +264,6 @@ fn connections_of(text: Option<&str>) -> Result<Option<u64>, BrokenRule<'static>
     }
 }
 
-/// Returns the limit for idle connections that this text gives in seconds. Returns None if there is
-/// no text, or if the number is 0. Fails if the text is not a number.
 fn idle_of(text: Option<&str>) -> Result<Option<Duration>, BrokenRule<'static>>
     ensures { MatchResult result (IsIdleLimit (option_map (λ s. s.now) text.entry))
         (λ _. ¬ (IsNumberIfGiven (option_map (λ s. s.now) text.entry))) }
@@ -332,7 +289,6 @@ fn command<'a>(alloc: Global) -> Result<Command<'a>, AllocError>
     }
 }
 
-/// Builds the command `rmtd` with the arguments that say where it serves, and how much.
 fn with_limits<'a>(alloc: Global) -> Result<Command<'a>, AllocError>
     ensures { IfOk result (λ c. app_of c ≡ app_with_limits) }
 {
@@ -344,7 +300,6 @@ fn with_limits<'a>(alloc: Global) -> Result<Command<'a>, AllocError>
     with_option(alloc, counted, "idle", "SECONDS", idle)
 }
 
-/// Builds the command `rmtd` with the arguments that say where it serves.
 fn with_ways<'a>(alloc: Global) -> Result<Command<'a>, AllocError>
     ensures { IfOk result (λ c. app_of c ≡ app_with_ways) }
 {
@@ -353,8 +308,7 @@ fn with_ways<'a>(alloc: Global) -> Result<Command<'a>, AllocError>
     with_option(alloc, named(alloc).arg(stdio), "listen", "ADDRESS", help)
 }
 
-/// Adds an option with a value to a command. Fails if the command could not be built, or if an
-/// allocation fails.
+/// Adds the option `--NAME VALUE` to a command.
 fn with_option<'a>(
     alloc: Global,
     command: Result<Command<'a>, AllocError>,

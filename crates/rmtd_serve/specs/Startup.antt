@@ -29,10 +29,12 @@ pub data EndsLine {In Out : Type 0} (kind : StreamsKind In Out) (line : ServerLi
   in_memory : line.listen ≡ None → line.drives.items ≡ []
       → EndsStdio kind line.capacity old new status
       → EndsLine kind line old new status
+  -- this does not say which bytes a read returns, or that any request succeeds
   in_folders : (ending : Result Served SessionFault) (before after : FolderLibrary)
       → line.listen ≡ None → 0 < length line.drives.items → AreStacksOf line before
       → IsServedAt folder_kinds kind before after old new ending → status ≡ exit_status ending
       → EndsLine kind line old new status
+  -- this does not say that connections were served
   listened : IsSome line.listen → line.drives.items ≡ [] → AreUntouched old new → status ≡ Ended
       → EndsLine kind line old new status
   failed : AreUntouched old new → status ≡ Failed → EndsLine kind line old new status

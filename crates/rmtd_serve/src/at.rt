@@ -18,12 +18,11 @@ use std::io::{Read, Write};
 /// Serves one pair of streams in a session with the given seat, and returns the seat and the
 /// stacks.
 ///
-/// The seat must hold no drive, and holds none afterwards, however the streams end. The session has
-/// nothing open at first, and what it opens is closed at its end. If an allocation fails before the
-/// first request is read, nothing is read or written.
+/// The seat must hold no drive, and holds none afterwards, however the streams end: what the
+/// session opens is closed at its end. If an allocation fails before the first request is read,
+/// nothing is read or written.
 ///
-/// The log of the stacks has a line when the pair begins to be served, and one that says how it
-/// ended. Both have `number`.
+/// The stacks log when the pair begins to be served and how it ended, both with `number`.
 pub fn serve_at<H: Holds + Drop, S: Stacks + Drop, I: Read, O: Write>(
     alloc: Global,
     drives: DriveTable<H, S>,
@@ -35,11 +34,6 @@ pub fn serve_at<H: Holds + Drop, S: Stacks + Drop, I: Read, O: Write>(
     requires own { H.belongs drives.holds seat }
     requires idle { HoldsJust (H.shows seat) None }
     requires enough { S.drives drives.stacks ≤ H.drives drives.holds }
-    // The caller must pass a seat that holds no drive. A session serves the pair of streams, as the
-    // contract of `serve` in `rmt_server` says. At the end, the session has no drive open.
-    // `serve_at` returns the seat and the stacks. The returned seat holds no drive and has the same
-    // number as before. Other seats hold the same drives as before. If an allocation fails before
-    // the first request is read, `serve_at` touches neither stream.
     ensures { GivesBack (kinds H.Holds S.Stacks S.Reel.Reel) I.Read O.Write (idle input.old output.old drives seat)
         (streams input.new output.new) result }
 {
@@ -47,8 +41,8 @@ pub fn serve_at<H: Holds + Drop, S: Stacks + Drop, I: Read, O: Write>(
     serve_timed(alloc, drives, seat, number, input, output, &is_idle)
 }
 
-/// Does what `serve_at` does. If a read or a write of the streams fails because it waited for too
-/// long, the caller's streams set `is_idle`, and the log line says `idle`.
+/// Like `serve_at`. If a read or a write fails because it waited for too long, the caller's streams
+/// set `is_idle`, and the log line says `idle`.
 pub(crate) fn serve_timed<H: Holds + Drop, S: Stacks + Drop, I: Read, O: Write>(
     alloc: Global,
     drives: DriveTable<H, S>,
@@ -77,13 +71,6 @@ pub(crate) fn serve_timed<H: Holds + Drop, S: Stacks + Drop, I: Read, O: Write>(
     (seat, drives.stacks)
 }
 
-/// Serves one pair of streams in a session at this seat. Returns the seat, and how the stream
-/// ended.
-///
-/// The seat must hold no drive, and holds none afterwards, however the streams end. The session has
-/// nothing open at first, and what it opens is closed at its end. The ending is `Stream` if a read
-/// or a write failed. It is `OutOfMemory` if an allocation failed before the first request was
-/// read; then nothing is read or written.
 pub(crate) fn serve_afresh<H: Holds, S: Stacks, I: Read, O: Write>(
     alloc: Global,
     drives: &mut DriveTable<H, S>,

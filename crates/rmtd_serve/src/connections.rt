@@ -32,16 +32,16 @@ const PAUSE: u64 = 100;
 
 /// The connections of a listener, up to a limit.
 ///
-/// If an accept fails, it pauses and accepts again. If the error says that the listener can never
-/// accept again, no more connections come. The log has a line for each connection that came, and
-/// for each that is not served. Only the first of several consecutive accept failures is logged,
-/// and one after which no more connections come.
+/// If an accept fails, which does not count as a connection, it pauses and accepts again, unless
+/// the error says that the listener can never accept again. The log has a line for each connection
+/// that came, and for each that is not served. Only the first of several consecutive accept
+/// failures is logged, and one after which no more connections come.
 #[derive(Drop)]
 pub struct Connections<'a, C: Clock, L: Log + Drop> {
     clock: &'a C,
     listener: &'a Listener,
-    /// How long one read or one write of a connection may make no progress before it fails. None is
-    /// no limit.
+    /// How long one read or one write of a connection may make no progress before it fails, if
+    /// there is a limit.
     pub idle: Option<Duration>,
     /// How many more connections come, at most.
     pub left: u64,
@@ -50,14 +50,14 @@ pub struct Connections<'a, C: Clock, L: Log + Drop> {
     pub tries: u64,
     /// The error number after which the listener can never accept again, if there was one.
     pub broken: Option<u32>,
-    /// The number of accepted connections, which is the number of the last one.
+    /// How many connections were accepted.
     pub(crate) number: u64,
     has_failed: bool,
     pub(crate) log: L,
     ghost lasting: { IfSome broken IsLasting } by { Prim.hlevel props },
 }
 
-/// Returns the error number, if it is one after which a listener can never accept again.
+/// Returns the error number, if the listener can never accept again.
 fn lasting(why: &io::Error) -> Option<u32>
     ensures { result ≡ lasting_of (raw_os_error why.now) }
 {
@@ -70,11 +70,8 @@ fn lasting(why: &io::Error) -> Option<u32>
 }
 
 impl<'a, C: Clock, L: Log + Drop> Connections<'a, C, L> {
-    /// Makes a `Connections`, which accepts connections from the given listener.
-    ///
-    /// `clock` measures the pause after a failed accept. At most `left` connections come. A read or
-    /// a write of a connection fails if it makes no progress for as long as `idle` says; None is no
-    /// limit. `log` gets the log lines.
+    /// Makes the connections of this listener. The fields say what `left` and `idle` limit. `clock`
+    /// measures the pause after a failed accept.
     pub fn new(
         clock: &'a C,
         listener: &'a Listener,
@@ -82,13 +79,9 @@ impl<'a, C: Clock, L: Log + Drop> Connections<'a, C, L> {
         idle: Option<Duration>,
         log: L,
     ) -> Self
-        // The field `left` is the argument `left`: how many more connections are allowed.
         ensures left { result.left ≡ left }
-        // The field `idle` is the argument `idle`: the time limit for idle connections. No clause
-        // says that this limit is set on a connection.
+        // No clause says that this limit is set on a connection.
         ensures idle { result.idle ≡ idle }
-        // The field `tries`, the number of failed accepts that are still allowed, is the greatest
-        // `u64`. The field `broken` is None: no error has broken the listener.
         ensures tries { result.tries ≡ 18446744073709551615 }
         ensures whole { result.broken ≡ None }
     {
@@ -105,11 +98,8 @@ impl<'a, C: Clock, L: Log + Drop> Connections<'a, C, L> {
         }
     }
 
-    /// Returns the exit status of a server that served these connections: `Ended` if all allowed
-    /// connections have come, and otherwise `Failed`.
+    /// Returns `Ended` if all allowed connections have come, and otherwise `Failed`.
     pub fn status(&self) -> ExitStatus
-        // `status` returns `Ended` if all allowed connections have come (`left` is 0), and
-        // otherwise `Failed`.
         ensures { result ≡ if self.now.left == 0 then Ended else Failed }
     {
         if self.left == 0 {
@@ -119,7 +109,6 @@ impl<'a, C: Clock, L: Log + Drop> Connections<'a, C, L> {
         }
     }
 
-    /// Whether another connection may come.
     pub(crate) fn is_open(&self) -> bool
         ensures closed { result ≡ false → AreOver self.now.left self.now.tries self.now.broken }
         ensures left { result ≡ true → 0 < self.now.left }
@@ -128,8 +117,6 @@ impl<'a, C: Clock, L: Log + Drop> Connections<'a, C, L> {
         self.left > 0 && self.tries > 0 && self.broken.is_none()
     }
 
-    /// Accepts the next connection, with TCP_NODELAY and the limit of its waits set. Returns None
-    /// if none was accepted, or if an option could not be set.
     fn accept(&mut self) -> Option<Stream<TcpStream>>
         requires left { 0 < self.old.left }
         requires tries { 0 < self.old.tries }
@@ -144,8 +131,6 @@ impl<'a, C: Clock, L: Log + Drop> Connections<'a, C, L> {
         }
     }
 
-    /// Counts a failed accept. If the listener can never accept again it keeps the error, and
-    /// otherwise pauses. It logs the first of consecutive failures, and an error that it keeps.
     fn miss(&mut self, why: io::Error)
         requires { 0 < self.old.tries }
         ensures left { self.new.left ≡ self.old.left }
@@ -164,8 +149,7 @@ impl<'a, C: Clock, L: Log + Drop> Connections<'a, C, L> {
         }
     }
 
-    /// Counts and logs a connection, and sets TCP_NODELAY and the limit of its waits. Returns None
-    /// if that fails.
+    /// Counts and logs a connection, and sets TCP_NODELAY and the limit `idle`.
     fn take(&mut self, stream: Stream<TcpStream>, caller: Caller) -> Option<Stream<TcpStream>>
         requires { 0 < self.old.left }
         ensures left { self.new.left + 1 ≡ self.old.left }
@@ -184,8 +168,8 @@ impl<'a, C: Clock, L: Log + Drop> Connections<'a, C, L> {
         }
     }
 
-    /// Accepts the next connection, and returns one stream to read from and one to write to.
-    /// Returns None if none was accepted, or if the system call that prepares it fails.
+    /// Accepts the next connection, as a stream to read from and one to write to. Returns None if
+    /// none was accepted or could be prepared.
     pub(crate) fn accept_both(&mut self) -> Option<(Stream<TcpStream>, Stream<TcpStream>)>
         requires left { 0 < self.old.left }
         requires tries { 0 < self.old.tries }
@@ -201,12 +185,10 @@ impl<'a, C: Clock, L: Log + Drop> Connections<'a, C, L> {
         }
     }
 
-    /// Logs that the last connection was closed, and why.
     fn note_closed<D: Display + Drop>(&self, why: D) {
         self.note_last(format_args!("closed: {why}"));
     }
 
-    /// Logs a line about the last connection.
     fn note_last<D: Display + Drop>(&self, what: D) {
         let number = self.number;
         self.log.note(text_of(format_args!("connection {number}: {what}")).as_str());
@@ -214,13 +196,6 @@ impl<'a, C: Clock, L: Log + Drop> Connections<'a, C, L> {
 }
 
 impl<C: Clock, L: Log + Drop> Incoming for Connections<'_, C, L> {
-    // is_over: `next` returns None (no further connection comes) only in one of three cases. First
-    // case: all allowed connections have come (`left` is 0). Second case: the listener can never
-    // accept again (`broken` is the listener's error). Third case: the allowed number of failed
-    // accepts is used up (`tries` is 0). A listener can never accept again after one of five errors
-    // of accept(2): EBADF, EFAULT, EINVAL, ENOTSOCK and EOPNOTSUPP. A failed accept does not count
-    // as a connection.
-
     type In = Stream<TcpStream>;
 
     type Out = Stream<TcpStream>;

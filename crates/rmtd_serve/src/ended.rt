@@ -4,12 +4,9 @@ use crate::session_fault::SessionFault;
 use rmt_server::Served;
 use std::fmt::{self, Display, Formatter, Write};
 
-/// The end of a connection.
 #[derive(Clone, Copy)]
 pub(crate) struct Ended {
-    /// The number of the connection.
     pub(crate) number: u64,
-    /// How its stream ended.
     pub(crate) ending: Result<Served, SessionFault>,
     /// Whether a read or a write failed because it waited for too long.
     pub(crate) is_idle: bool,

@@ -6,7 +6,7 @@ use reel_files::Log;
 use std::fmt::{Display, Write};
 use std::rt::Clock;
 
-/// The greatest length in bytes of a text that is formatted here for a log.
+/// The most bytes of a text that `text_of` formats.
 const TEXT_ROOM: usize = 255;
 
 /// A log on standard error, of one seat or of the server.

@@ -8,14 +8,12 @@ use std::fmt::{self, Display, Formatter, Write};
 use std::io::{self, ErrorKind, Read};
 use std::{fs, str};
 
-/// The file with the limits of this process.
 const LIMITS: &str = "/proc/self/limits";
 
 /// The file with the signals that this process ignores.
 const STATUS: &str = "/proc/self/status";
 
-/// The bit of SIGXFSZ in a mask of signals. The system sends this signal to a process that writes
-/// past the limit.
+/// The bit of SIGXFSZ in a mask of signals.
 const XFSZ: u64 = 1 << 24;
 
 /// How many bytes of these files are read, at most.
@@ -34,12 +32,9 @@ pub(crate) fn log_limit<R: FolderSystem, L: Log>(rt: &R, log: &L, capacity: u64)
     Ok(())
 }
 
-/// The log line that says that a reel can reach the limit.
 #[derive(Clone, Copy)]
 struct LimitLog {
-    /// The greatest size of a file in bytes.
     limit: u64,
-    /// The capacity of a reel in bytes.
     capacity: u64,
 }
 
@@ -57,8 +52,7 @@ impl Display for LimitLog {
     }
 }
 
-/// Returns the greatest size of a file in bytes, or None if there is no limit or the system does
-/// not report it.
+/// Returns the greatest size of a file in bytes, if the system reports a limit.
 fn limit_of<R: FolderSystem>(rt: &R) -> io::Result<Option<u64>> {
     let mut bytes = [0; ROOM];
     let count = read_start(rt, LIMITS, bytes.as_mut_slice())?;
@@ -66,7 +60,6 @@ fn limit_of<R: FolderSystem>(rt: &R) -> io::Result<Option<u64>> {
     Ok(limit.and_then(|text| text.parse().ok()))
 }
 
-/// Whether the system reports that the signal is not ignored.
 fn is_fatal<R: FolderSystem>(rt: &R) -> io::Result<bool> {
     let mut bytes = [0; ROOM];
     let count = read_start(rt, STATUS, bytes.as_mut_slice())?;
@@ -75,8 +68,8 @@ fn is_fatal<R: FolderSystem>(rt: &R) -> io::Result<bool> {
     Ok(ignored.is_some_and(|signals| signals & XFSZ == 0))
 }
 
-/// Reads the first bytes of a file, and returns how many. Returns 0 if the file cannot be opened or
-/// read. It fails only if an allocation fails.
+/// Reads the first bytes of a file. Returns how many, or 0 if it cannot be opened or read. It fails
+/// only if an allocation fails.
 fn read_start<R: FolderSystem>(rt: &R, path: &str, into: &mut [u8]) -> io::Result<usize>
     ensures { IfOk result (λ n. n ≤ length into.new) }
 {
@@ -87,7 +80,6 @@ fn read_start<R: FolderSystem>(rt: &R, path: &str, into: &mut [u8]) -> io::Resul
     }
 }
 
-/// Returns the first word after `name` in the first line that begins with it.
 fn value_of<'a>(bytes: &'a [u8], name: &str) -> Option<&'a str> {
     for line in str::from_utf8(bytes).ok()?.lines() {
         if let Some(rest) = line.strip_prefix(name) {

@@ -1,6 +1,4 @@
 //! Drives whose reels are files in folders, from the arguments of `rmtd`.
-//!
-//! `start` says whether a log line begins with the time.
 ghost use Rattle.std.specs.Prelude.{◌≡◌, ◌≤◌, false, All, IfOk, length, map};
 ghost use Rattle.drives.specs.declared.holds.TheConstants.{DRIVE_LIMIT};
 ghost use Rattle.reel_files.specs.Folders.{folder_row};
@@ -27,15 +25,13 @@ pub fn folder_stacks<R: FolderSystem>(
 ) -> Result<FolderStacks<R, NoLog>, AllocError>
     requires some { 1 ≤ length arguments.now }
     requires few { length arguments.now ≤ DRIVE_LIMIT }
-    // The stacks have the drives that the arguments name, in order. Each drive has the folder that
-    // its argument names. The bin has the given folder, and the reels have the given capacity.
     ensures named { IfOk result (λ s. s ≡ stacks_of arguments.now bin.now capacity) }
     ensures count { IfOk result (λ s. length s.rows ≡ length arguments.now) }
 {
     logged_stacks(rt, arguments, bin, capacity, NoLog)
 }
 
-/// Like `folder_stacks`, with a log to which the stacks write what they do.
+/// Like `folder_stacks`, with a log.
 pub(crate) fn logged_stacks<R: FolderSystem, L: Log + Drop>(
     rt: R,
     arguments: &[DriveArgument<'_>],
@@ -52,7 +48,6 @@ pub(crate) fn logged_stacks<R: FolderSystem, L: Log + Drop>(
     FolderStacks::with_log(rt, &drives, bin, capacity, log)
 }
 
-/// Returns the names and folders of the drives in these arguments.
 fn folder_drives<'a>(
     alloc: Global,
     arguments: &[DriveArgument<'a>],
@@ -73,9 +68,9 @@ fn folder_drives<'a>(
 
 /// Makes stacks with the given drives for each seat of a table, in the order of the seat numbers.
 ///
-/// All of them use the same folders, each independently. Each logs what it does to standard error,
-/// with the seat's number, in lines that begin as `start` says. There must be 1 to `DRIVE_LIMIT`
-/// drives. It reads no folder, and fails only if an allocation fails.
+/// All of them use the same folders, each independently. Each logs on standard error, with the
+/// seat's number, in lines that begin as `start` says. There must be 1 to `DRIVE_LIMIT` drives. It
+/// reads no folder, and fails only if an allocation fails.
 pub fn seat_stacks<R: FolderSystem + Eprint>(
     rt: R,
     arguments: &[DriveArgument<'_>],
@@ -85,12 +80,8 @@ pub fn seat_stacks<R: FolderSystem + Eprint>(
 ) -> Result<Vec<FolderStacks<R, ErrorLog<R>>>, AllocError>
     requires some { 1 ≤ length arguments.now }
     requires few { length arguments.now ≤ DRIVE_LIMIT }
-    // `seat_stacks` returns stacks for each of the 32 seats of a table.
     ensures count { IfOk result (λ all. length all.items ≡ SEAT_LIMIT) }
-    // The stacks of each seat have as many drives as the arguments name.
     ensures drives { IfOk result (λ all. All (λ s. length s.rows ≡ length arguments.now) all.items) }
-    // For each seat, the stacks are equal to the stacks that `folder_stacks` makes from the same
-    // arguments. So a drive has the same number and the same folder in the stacks of every seat.
     ensures named { IfOk result (λ all. All (λ s. s ≡ stacks_of arguments.now bin.now capacity) all.items) }
 {
     let mut all = Vec::with_capacity(rt.alloc(), SEAT_LIMIT)?;
@@ -101,7 +92,6 @@ pub fn seat_stacks<R: FolderSystem + Eprint>(
     Ok(all)
 }
 
-/// Makes the stacks of seat `seat`.
 fn stacks_at<R: FolderSystem + Eprint>(
     rt: &R,
     arguments: &[DriveArgument<'_>],

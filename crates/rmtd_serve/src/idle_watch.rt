@@ -11,15 +11,13 @@ pub(crate) struct IdleWatch<'w, T> {
 }
 
 impl<'w, T> IdleWatch<'w, T> {
-    /// Makes a stream that has the calls of `inner`. If one of them waited for too long, `is_idle`
-    /// becomes true.
+    /// If a call of `inner` waited for too long, `is_idle` becomes true.
     pub(crate) fn new(inner: T, is_idle: &'w Cell<bool>) -> Self {
         IdleWatch { inner, is_idle }
     }
 
-    /// Records whether a call with this result waited for longer than the limit of the stream. An
-    /// error with a number of the system is none of these: ETIMEDOUT means that the system gave the
-    /// connection up.
+    /// Records whether a call with this result waited for longer than the limit of the stream.
+    /// ETIMEDOUT is no such error: the system gave the connection up.
     fn record(&self, found: &io::Result<usize>) {
         if let Err(why) = found
             && why.kind() == ErrorKind::TimedOut

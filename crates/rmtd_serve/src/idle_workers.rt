@@ -10,7 +10,7 @@ use drives::Stacks;
 use hold_table::{HoldSeat, SEAT_LIMIT};
 use std::alloc::Global;
 
-/// The workers that no thread has, and how many of them are not reserved.
+/// The idle workers, and how many of them are not reserved.
 #[derive(Drop)]
 pub(crate) struct IdleWorkers<'t, S: Stacks + Drop, B: NamesTable> {
     unused_seats: UnusedSeats<'t, S, B>,
@@ -19,9 +19,8 @@ pub(crate) struct IdleWorkers<'t, S: Stacks + Drop, B: NamesTable> {
 }
 
 impl<'t, S: Stacks + Drop, B: NamesTable> IdleWorkers<'t, S, B> {
-    /// Starts with the seats of `unused_seats`: a worker is made from one of them when it is first
-    /// taken. A seat is a place at the table of the drives' holders; a worker is a seat with the
-    /// stacks on which its sessions work. No worker is reserved. It allocates nothing.
+    /// No worker is reserved at first. A worker is made from a seat of `unused_seats` when it is
+    /// first taken. It allocates nothing.
     pub(crate) fn new(alloc: Global, unused_seats: UnusedSeats<'t, S, B>) -> Self {
         IdleWorkers {
             unused_seats,
@@ -60,15 +59,14 @@ impl<'t, S: Stacks + Drop, B: NamesTable> IdleWorkers<'t, S, B> {
         }
     }
 
-    /// Takes a worker back. It allocates nothing, because the room was made when the worker was
-    /// reserved.
+    /// Takes a worker back. It allocates nothing, because `reserve` made the room.
     pub(crate) fn put(&mut self, worker: Worker<'t, S, B>) {
         let is_back = self.workers.push(worker).is_ok();
         self.free = self.free.saturating_add(is_back as usize);
     }
 
-    /// Returns the seats of all workers. None of them holds a drive. The vector once had all these
-    /// seats, so there is room for them. A seat without room would be lost.
+    /// Returns the seats of all workers. The vector once had all these seats, so there is room for
+    /// them. A seat without room would be lost.
     pub(crate) fn into_seats(self) -> Vec<HoldSeat>
         ensures { All (λ s. IsSeatAt B.table s × HoldsJust s.view None) result.items }
     {

@@ -26,19 +26,15 @@ pub trait Incoming {
     /// The last pair was returned.
     ghost is_over: { Self → Type 0 };
 
-    /// Returns the next pair of streams, or None after the last pair. It may wait for a pair, as a
-    /// read may.
+    /// Returns the next pair of streams, or None after the last pair. It may wait for a pair.
     fn next(&mut self) -> Option<(Self::In, Self::Out)>
-        // `next` returns `None` only if all pairs of streams have come.
         ensures { result ≡ None → is_over self.new };
 
-    /// Returns the number of the last pair of streams that `next` returned, for log lines. No
-    /// contract speaks of it.
+    /// Returns the number of the last pair that `next` returned, for log lines.
     fn number(&self) -> u64 {
         0
     }
 
-    /// Receives the reason why the server dropped the last pair of streams that `next` returned,
-    /// and did not serve the pair. No contract speaks of it.
+    /// Receives the reason why the last pair that `next` returned was dropped and not served.
     fn dropped(&self, _why: DropReason) {}
 }

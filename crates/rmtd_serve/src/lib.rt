@@ -1,19 +1,15 @@
-//! The server `rmtd` reads its arguments, and serves streams with a drive in memory or with drives
-//! in folders. It serves one stream after the other, or up to 32 in parallel, each in a thread of
-//! its own.
+//! The server `rmtd`: reads its arguments, and serves streams with one drive in memory or with
+//! drives in folders. It serves one stream after the other, or up to 32 in parallel, each in its
+//! own thread.
 //!
 //! # Contracts
 //!
-//! The server has one drive in memory, or drives in folders. The server serves one stream after the
-//! other, or up to 32 streams in parallel. A *serve step* is one request, with a reply and an
-//! effect that the protocol allows. `rmt_tools` exports the names of this crate too.
+//! A *serve step* is one request, with a reply and an effect that the protocol allows. A *table*
+//! has 32 *seats*, and records which seat holds which drive. Each session has a seat. The *stacks*
+//! are the server's drives with their reels, and the bin. A *worker* is a seat that holds no drive,
+//! with stacks, for one thread.
 //!
-//! A *table* has 32 *seats*, and records which seat holds which drive. Each session has a seat. The
-//! *stacks* are the server's drives with their reels, and the bin. A *worker* is a seat and stacks
-//! for one thread. The invariant of `Worker` says that the worker's seat holds no drive and belongs
-//! to the worker's table. The invariant also says that the worker's stacks have no more drives than
-//! this table. The invariant holds when a thread takes a worker, and when the thread puts the
-//! worker back.
+//! `rmt_tools` exports most names of this crate too.
 #![tactic(auto)]
 
 mod at;

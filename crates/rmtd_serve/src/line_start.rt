@@ -29,8 +29,8 @@ pub enum LineStart {
 }
 
 impl LineStart {
-    /// Returns how lines on standard error begin: without the time if the environment says that
-    /// standard error leads to systemd's journal. It fails only if an allocation fails.
+    /// Returns `Name` if the environment says that standard error leads to systemd's journal. It
+    /// fails only if an allocation fails.
     pub(crate) fn of<R: FolderSystem + Env>(rt: &R) -> io::Result<LineStart> {
         let mut room = [0; STREAM_ROOM];
         let Ok(count) = rt.var(JOURNAL_STREAM, room.as_mut_slice()) else {
@@ -43,8 +43,8 @@ impl LineStart {
         }
     }
 
-    /// Returns the time now, if lines begin with it. Returns None also if the clock cannot be read,
-    /// or if its year does not have four digits.
+    /// Returns the time now, if lines begin with it, the clock can be read, and its year has four
+    /// digits.
     pub(crate) fn time<C: Clock>(self, clock: &C) -> Option<Timestamp> {
         if self == LineStart::Name {
             return None;
@@ -54,8 +54,7 @@ impl LineStart {
     }
 }
 
-/// Whether `stream` is the device and the inode of standard error, in decimal, with a colon between
-/// them.
+/// Whether `stream` is `DEVICE:INODE` of standard error, in decimal.
 fn is_error<R: FolderSystem>(rt: &R, stream: &[u8]) -> io::Result<bool> {
     match fs::metadata(rt, ERROR) {
         Ok(found) => {
@@ -70,9 +69,7 @@ fn is_error<R: FolderSystem>(rt: &R, stream: &[u8]) -> io::Result<bool> {
 /// The part of a log line before its text.
 #[derive(Clone, Copy)]
 pub(crate) struct LineHead {
-    /// The time, if the line begins with it.
     pub(crate) time: Option<Timestamp>,
-    /// The number of the seat, if the line belongs to one.
     pub(crate) seat: Option<usize>,
 }
 

@@ -11,14 +11,13 @@ use hold_table::{HoldSeat, HoldTable};
 use reel_files::{FolderStacks, FolderSystem};
 use std::time::Duration;
 
-/// The setup of a listener that serves connections in parallel: drives in folders, the table of
-/// their holders, its seats, and stacks for each seat.
+/// The drives in folders, the table of their holders, and the limits of a listener.
 #[derive(Drop)]
 pub struct ListenerSetup<R: FolderSystem + Eprint> {
     /// How many connections are served, at most.
     pub left: u64,
     /// How long one read or one write of a connection may make no progress before the server ends
-    /// the connection. None is no limit.
+    /// the connection, if there is a limit.
     pub idle: Option<Duration>,
     /// The table of who holds which drive.
     pub table: HoldTable,

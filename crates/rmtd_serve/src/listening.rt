@@ -19,21 +19,13 @@ use std::rt::Clock;
 /// can never accept again. Returns the connections.
 ///
 /// Each connection finds the reels as the one before left them. A connection that ended within a
-/// request, or failed, counts too. The log has a line for the end of each.
+/// request, or failed, counts too. The end of each is logged.
 pub fn serve_connections<'a, C: Clock, L: Log + Drop, M: Log>(
     server: &mut MemoryServer<'_, M>,
     connections: Connections<'a, C, L>,
 ) -> Connections<'a, C, L>
-    // The reels are unchanged between one served connection and the next. For each connection, the
-    // requests and their replies form a sequence of serve steps: the protocol allows each reply and
-    // each effect. No clause says which bytes pass over a connection.
+    // No clause says which bytes pass over a connection.
     ensures turns { ServedInTurn server.old server.new }
-    // When `serve_connections` returns, one of three cases holds. First case: all allowed
-    // connections have come (`left` is 0). Second case: the listener can never accept again
-    // (`broken` is the listener's error). Third case: the allowed number of failed accepts is used
-    // up (`tries` is 0). Only an accept changes `left`, `broken` and `tries`, and a failed accept
-    // lowers `tries` by one. Clauses of private calls promise how an accept changes these three
-    // fields. The crate `thread_tests` tests that each accept keeps the promises of these clauses.
     ensures over { AreOver result.left result.tries result.broken }
 {
     let mut connections = connections;

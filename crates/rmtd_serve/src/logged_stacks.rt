@@ -5,8 +5,7 @@ use drives::{DriveFault, OpenRefusal, Stacks};
 use reel_files::{Log, RefusedOpens};
 use std::marker::Model;
 
-/// Stacks with a log of the opens that are refused. It has the contracts of the stacks, and
-/// contracts see only the stacks.
+/// Stacks with a log of refused opens. Contracts see only the stacks.
 #[derive(Drop)]
 pub(crate) struct LoggedStacks<'l, S, L: Log> {
     stacks: S,
@@ -23,7 +22,6 @@ impl<'l, S, L: Log> Model for LoggedStacks<'l, S, L> {
 }
 
 impl<'l, S, L: Log> LoggedStacks<'l, S, L> {
-    /// Gives these stacks this log.
     pub(crate) fn new(stacks: S, log: &'l L) -> LoggedStacks<'l, S, L>
         ensures { result ≡ stacks }
     {

@@ -16,8 +16,7 @@ use std::marker::Brand;
 use std::sync::{Mutex, Wait};
 use std::thread::{self, Threads};
 
-/// The work of a thread: takes a reserved worker, serves pair `number` with it, and puts the worker
-/// back.
+/// Serves pair `number` with a reserved worker, and puts the worker back.
 fn work<W: Wait, I: Read + Drop, O: Write + Drop, S: Stacks + Drop, B: NamesTable>(
     rt: &W,
     alloc: Global,
@@ -33,7 +32,6 @@ fn work<W: Wait, I: Read + Drop, O: Write + Drop, S: Stacks + Drop, B: NamesTabl
     idle_workers.lock(rt).put(worker);
 }
 
-/// Starts a thread for each pair that comes while a worker is free, and waits for all threads.
 fn serve_all<
     R: Threads + Wait + Sync,
     I: Incoming + Drop,
@@ -80,8 +78,7 @@ where
     )
 }
 
-/// Serves the pairs with a table that the type `B` names. Returns the source of the pairs, and the
-/// seats of the workers.
+/// Serves the pairs with a table that the type `B` names.
 fn serve_at_table<
     R: Threads + Wait + Sync,
     I: Incoming + Drop,
@@ -112,21 +109,17 @@ where
 /// Serves each pair of streams in its own session and its own thread, at most 32 (`SEAT_LIMIT`)
 /// pairs in parallel.
 ///
-/// It returns after the last pair has come and each thread has ended. It returns the source of the
-/// pairs, and the seats in any order. Each seat belongs to the table, and holds no drive. A seat
-/// for which the server has no memory is missing.
+/// The caller passes all seats of the table, none of which holds a drive, and as many stacks, each
+/// with no more drives than the table. When a session has ended, its seat and stacks serve a later
+/// pair.
 ///
-/// Each session has one of the seats and one of the stacks. The seats must be those of the table,
-/// and hold no drive before and after each session. The stacks must have no more drives than the
-/// table. When a session has ended, its seat and stacks serve a later pair.
+/// It returns after the last pair has come and each thread has ended. It returns the source of the
+/// pairs, and the seats in any order. A seat for which the server has no memory is missing.
 ///
 /// A pair is closed unserved if all seats are taken, or if an allocation or the start of a thread
-/// fails. Nothing is read from it or written to it then. The function waits for pairs and for
-/// threads.
+/// fails. Then nothing is read from it or written to it, and `Incoming::dropped` is called.
 ///
-/// The log of a seat's stacks has two lines for each pair that is served: when that begins, and how
-/// it ended. Both have the pair's number. For a pair that is closed unserved, `Incoming::dropped`
-/// is called.
+/// The stacks log when a pair begins to be served and how it ended, both with the pair's number.
 pub fn serve_many<R: Threads + Wait + Sync, I: Incoming + Drop, S: Stacks + Drop + Send>(
     rt: &R,
     alloc: Global,
@@ -139,12 +132,7 @@ where
     S::Reel: Send,
     requires seats { (length seats.items ≡ SEAT_LIMIT) × All (λ s. IsSeatAt table.now s × HoldsJust s.view None) seats.items }
     requires stacks { (length stacks.items ≡ SEAT_LIMIT) × All (λ s. S.drives s ≤ table.now.words) stacks.items }
-    // `serve_many` serves pairs of streams in threads, and this use of threads is proved safe. The
-    // caller must pass 32 seats of one table, and stacks for each seat. No passed seat may hold a
-    // drive. The stacks for a seat may have at most as many drives as the table has. `serve_many`
-    // returns only after the last pair of streams has come.
     ensures over { I.is_over result.0 }
-    // Each seat that `serve_many` returns belongs to the given table, and holds no drive.
     ensures seats { All (λ s. IsSeatAt table.now s × HoldsJust s.view None) result.1.items }
 {
     serve_at_table::<R, I, S, Brand>(rt, alloc, incoming, table, seats, stacks)

@@ -1,6 +1,4 @@
 //! Prepares a listener that serves connections in parallel.
-//!
-//! `start` says whether a log line begins with the time.
 ghost use Rattle.std.specs.Prelude.{◌≡◌, ◌≤◌, Some, IfOk, length, map, option_map};
 ghost use Rattle.drives.specs.declared.holds.TheConstants.{DRIVE_LIMIT};
 ghost use Rattle.rmtd_args.specs.Drive.{KeepsDriveRules, plain_drive};
@@ -14,7 +12,6 @@ use reel_files::FolderSystem;
 use rmtd_args::ServerLine;
 use std::io;
 
-/// Makes the setup of a listener that the arguments ask for. Its log lines begin as `start` says.
 /// It fails only if an allocation fails.
 pub(crate) fn listener_setup_of<R: FolderSystem + Eprint>(
     rt: &R,

@@ -1,7 +1,4 @@
-//! The start of `rmtd`: reads its arguments and does what they ask, up to the point where
-//! connections are served in parallel.
-//!
-//! `start` says whether a log line begins with the time.
+//! The start of `rmtd`, up to the point where connections are served in parallel.
 ghost use Rattle.std.specs.Prelude.{◌≡◌, ◌⊎◌, ◌≤◌, Some, None, IfOk, OnErr, length, map, option_map};
 ghost use Rattle.clap.specs.Words.{kind_of};
 ghost use Rattle.drives.specs.declared.holds.TheConstants.{DRIVE_LIMIT};
@@ -30,8 +27,8 @@ use crate::tape_server::TapeServer;
 use crate::warnings::Warnings;
 use clap::Error;
 use clap::error::ErrorKind;
+use console::{PlainLines, plain};
 use file_medium::reserve_std_fds;
-use printable::{PlainLines, plain};
 use reel_files::{FolderStacks, FolderSystem, Log};
 use rmt_server::Served;
 use rmt_wire::Counted;
@@ -44,7 +41,7 @@ use std::io::{self, Read, Write};
 use std::net::{Net, TcpListener, TcpStream};
 use std::rt::Env;
 
-/// The message if the program cannot start because it is out of memory.
+/// The message if the program cannot start.
 const NOT_STARTED: &str = "it did not start";
 
 /// The system services that `rmtd` uses, besides its standard streams and its threads.
@@ -68,8 +65,7 @@ pub enum Begun<R: FolderSystem + Eprint> {
     Serve(Listener, ListenerSetup<R>),
 }
 
-/// Reads the program's arguments and does what they ask, but leaves it to the caller to serve
-/// connections in parallel.
+/// Does what `begin` does, with the program's arguments.
 ///
 /// If the arguments cannot be read, or if an allocation fails at the start, it prints that on
 /// standard error and the status is `Failed`. With `--stdio` the start lasts until the first
@@ -79,12 +75,8 @@ pub fn start<R: ServerSystem, I: Read, O: Write>(
     input: &mut Counted<I>,
     output: &mut Counted<O>,
 ) -> io::Result<Begun<R>>
-    // Either `start` does what `begin` promises for some list of arguments, or `start` returns
-    // `Failed` and touches neither of the given streams. No clause says that the program was
-    // started with these arguments.
     ensures started { IfOk result (IsStarted (streams_kind I.remaining O.contents)
         (streams input.old output.old) (streams input.new output.new)) }
-    // If `start` returns an error, neither of the given streams was touched.
     ensures failed { OnErr result (AreUntouched (streams input.old output.old) (streams input.new output.new)) }
 {
     match run_process(rt, input, output) {
@@ -93,8 +85,6 @@ pub fn start<R: ServerSystem, I: Read, O: Write>(
     }
 }
 
-/// Reads the program's arguments and does what they ask, up to the point where connections are
-/// served in parallel.
 fn run_process<R: ServerSystem, I: Read, O: Write>(
     rt: &R,
     input: &mut Counted<I>,
@@ -119,7 +109,6 @@ fn arguments<R: Env + AllocGlobal>(rt: &R) -> io::Result<Vec<String>> {
     Ok(arguments)
 }
 
-/// Does what these arguments ask, up to the point where connections are served in parallel.
 fn run_arguments<R: ServerSystem, I: Read, O: Write>(
     rt: &R,
     arguments: &[String],
@@ -134,7 +123,6 @@ fn run_arguments<R: ServerSystem, I: Read, O: Write>(
     begin(rt, lent.as_slice(), input, output)
 }
 
-/// Returns references to the arguments.
 fn lent(alloc: Global, arguments: &[String]) -> Result<Vec<&str>, AllocError> {
     let mut lent = Vec::new(alloc);
     for argument in arguments {
@@ -160,39 +148,17 @@ fn lent(alloc: Global, arguments: &[String]) -> Result<Vec<&str>, AllocError> {
 ///   the last case the message is dropped if it cannot be written.
 ///
 /// It fails if another allocation fails or standard error cannot be written. In all these cases
-/// neither stream is touched.
-///
-/// No file that is opened here or later gets the number of a standard stream.
+/// neither stream is touched. No file that is opened here or later gets the number of a standard
+/// stream.
 pub fn begin<R: ServerSystem, I: Read, O: Write>(
     rt: &R,
     arguments: &[&str],
     input: &mut Counted<I>,
     output: &mut Counted<O>,
 ) -> io::Result<Begun<R>>
-    // With `--stdio` and a drive in memory, `begin` serves the given streams as `run_stdio`
-    // promises. `begin` returns the exit status that `run_stdio` promises.
-    //
-    // With `--stdio` and drives in folders, `begin` serves the given streams as `TapeServer::serve`
-    // promises, with the stacks of the drives, the bin and the capacity that the arguments name. So
-    // each request that was read is answered exactly once, in order, as a session at these stacks
-    // answers it. `begin` returns the status that `ExitStatus::of` returns for the end of the
-    // stream. The contents of folders are not specified, so no clause says which bytes a read
-    // returns, or that any request succeeds.
-    //
-    // With `--listen` and a drive in memory, `begin` returns `Ended` or `Failed`, and touches
-    // neither stream. No clause says that connections were served.
-    //
-    // With `--listen` and drives in folders, `begin` returns the setup of the listener
-    // (`ListenerSetup`). The setup has the drives, the number of connections and the limit for idle
-    // connections that the arguments name. `begin` touches neither stream.
-    //
-    // If the server cannot start, or the arguments are wrong, `begin` returns `Failed`. If the
-    // argument parser (clap) prints the help or the version, `begin` returns `Ended`. In each of
-    // these cases `begin` touches neither stream.
     ensures begun { IfOk result
         (IsBegun (streams_kind I.remaining O.contents) (map (λ s. s.now) arguments.now)
         (streams input.old output.old) (streams input.new output.new)) }
-    // If `begin` returns an error, neither of the given streams was touched.
     ensures failed { OnErr result (AreUntouched (streams input.old output.old) (streams input.new output.new)) }
 {
     reserve_std_fds(rt);
@@ -202,8 +168,6 @@ pub fn begin<R: ServerSystem, I: Read, O: Write>(
     }
 }
 
-/// Serves as the arguments say. For a listener with drives in folders it returns what remains to be
-/// done.
 fn serve_line<R: ServerSystem, I: Read, O: Write>(
     rt: &R,
     line: &ServerLine<'_>,
@@ -232,9 +196,6 @@ fn serve_line<R: ServerSystem, I: Read, O: Write>(
     }
 }
 
-/// Serves the streams with drives in folders, or prepares a listener. If a folder cannot be used,
-/// it prints that before anything is read. Errors while the streams are served are printed on
-/// standard error, unless that is the stream with the replies.
 fn serve_line_in_folders<R: ServerSystem, I: Read, O: Write>(
     rt: &R,
     line: &ServerLine<'_>,
@@ -260,8 +221,6 @@ fn serve_line_in_folders<R: ServerSystem, I: Read, O: Write>(
     }
 }
 
-/// Makes the stacks of the drives in the arguments, with this bin. They log failures on standard
-/// error. It fails only if an allocation fails.
 fn stacks_with_warnings<R: ServerSystem>(
     rt: &R,
     line: &ServerLine<'_>,
@@ -278,7 +237,6 @@ fn stacks_with_warnings<R: ServerSystem>(
     Ok(logged_stacks(rt.clone()?, drives, bin, line.capacity, log)?)
 }
 
-/// Serves the streams with these stacks. Returns `End` with their status.
 fn serve_in_folders<R: ServerSystem, I: Read, O: Write>(
     rt: &R,
     line: &ServerLine<'_>,
@@ -300,9 +258,8 @@ fn serve_in_folders<R: ServerSystem, I: Read, O: Write>(
     Ok(end(rt, ending))
 }
 
-/// Listens at this address, for drives in folders. All memory for the start is allocated before the
-/// line that says that it listens is printed. Therefore a client that waits for that line can be
-/// served.
+/// Listens at this address, for drives in folders. It allocates all memory for the start before it
+/// prints that it listens, so a client that waits for that line can be served.
 fn listen_in_folders<R: ServerSystem>(
     rt: &R,
     address: &str,
@@ -325,8 +282,7 @@ fn listen_in_folders<R: ServerSystem>(
     }
 }
 
-/// Returns `End` with the status for this ending of the streams. If there was no session to serve
-/// them, it prints the reason on standard error. The message is dropped if it cannot be written.
+/// If there was no session, prints the reason, or drops it if it cannot be printed.
 fn end<R: ServerSystem>(rt: &R, ending: Result<Served, SessionFault>) -> Begun<R>
     ensures { result ≡ Begun.End (exit_status ending) }
 {
@@ -339,8 +295,7 @@ fn end<R: ServerSystem>(rt: &R, ending: Result<Served, SessionFault>) -> Begun<R
     Begun::End(ExitStatus::of(ending))
 }
 
-/// Prints on standard error what failed and why. Returns `End` with the status `Failed`. It fails
-/// if standard error cannot be written.
+/// Fails if standard error cannot be written.
 fn report<R: ServerSystem, D: Display + Drop>(rt: &R, what: &str, why: D) -> io::Result<Begun<R>>
     ensures { IfOk result (λ begun. begun ≡ Begun.End Failed) }
 {
@@ -349,15 +304,12 @@ fn report<R: ServerSystem, D: Display + Drop>(rt: &R, what: &str, why: D) -> io:
     Ok(Begun::End(ExitStatus::Failed))
 }
 
-/// The log line of a listener whose reel is in memory.
 const IN_MEMORY: &str = "the reel of /dev/st0 is in memory, and is gone when the server ends";
 
-/// The warning about the reel in memory, if a bin is given. That reel never reaches the bin.
 const BIN_ALONE: &str =
     "--bin is given and no drive: the reel of /dev/st0 is in memory, and is gone when the server ends";
 
-/// Warns that the reel is in memory if a bin is given, which no such reel reaches. It fails only if
-/// an allocation fails.
+/// Fails only if an allocation fails.
 fn warn_of_bin<R: ServerSystem>(rt: &R, line: &ServerLine<'_>, start: LineStart) -> io::Result<()> {
     if line.bin.is_some() {
         Warnings::new(rt, start)?.warn(BIN_ALONE);
@@ -365,11 +317,7 @@ fn warn_of_bin<R: ServerSystem>(rt: &R, line: &ServerLine<'_>, start: LineStart)
     Ok(())
 }
 
-/// Listens at this address, and serves as many connections as the arguments say with a drive in
-/// memory. It logs that the reel is in memory.
-///
-/// Returns the status: `Ended` if all connections came, and `Failed` if the listener can never
-/// accept again.
+/// Listens at this address, and serves the connections with a drive in memory.
 fn listen<R: ServerSystem>(
     rt: &R,
     address: &str,
@@ -392,7 +340,6 @@ fn listen<R: ServerSystem>(
     Ok(serve_connections(&mut server, connections).status())
 }
 
-/// Makes the log of the server itself, whose lines begin as `start` says.
 fn log_of<R>(rt: &R, start: LineStart) -> ErrorLog<&R> {
     ErrorLog {
         rt,
@@ -401,13 +348,11 @@ fn log_of<R>(rt: &R, start: LineStart) -> ErrorLog<&R> {
     }
 }
 
-/// The log line if the server listens at each address of the machine.
 const ANYWHERE: &str =
     "it listens at each address of this machine: whoever reaches one of them can read and write all reels";
 
-/// Listens at this address, and prints it on standard output: the host and the port of the
-/// listener, or the given address if that is a path. If the server listens at each address
-/// of the machine, it logs a warning.
+/// Listens at this address, and prints the host and the port of the listener on standard output, or
+/// the address if it is a path.
 fn bind<R: ServerSystem, L: Log>(rt: &R, address: &str, log: &L) -> io::Result<Listener> {
     let listener = Listener::bind(rt, address)?;
     match listener.local_addr()? {
@@ -426,8 +371,7 @@ fn bind<R: ServerSystem, L: Log>(rt: &R, address: &str, log: &L) -> io::Result<L
 }
 
 /// Prints why the arguments leave nothing to do: an error on standard error, or help or the version
-/// on standard output. Returns `End`, with the status `Ended` for help or the version, else
-/// `Failed`.
+/// on standard output.
 fn refuse<R: ServerSystem>(rt: &R, error: Error) -> io::Result<Begun<R>>
     ensures { IfOk result (λ begun. (begun ≡ Begun.End Failed) ⊎ ((begun ≡ Begun.End Ended) × IsShown (kind_of error))) }
 {
@@ -454,8 +398,8 @@ fn refuse<R: ServerSystem>(rt: &R, error: Error) -> io::Result<Begun<R>>
     Ok(Begun::End(status))
 }
 
-/// Prints an error about the arguments on standard error. The error may quote them, so control
-/// characters are printed as `?`.
+/// Prints an error about the arguments. It may quote them, so control characters are printed as
+/// `?`.
 fn print_error<R: ServerSystem>(rt: &R, error: &Error) -> io::Result<()> {
     let text = format!(in rt.alloc(); "{error}")?;
     rt.eprint(PlainLines(text.as_str()))

@@ -22,10 +22,6 @@ pub enum ExitStatus {
 impl ExitStatus {
     /// Returns the exit status of `rmtd --stdio` for the given end of a stream.
     pub fn of(ending: Result<Served, SessionFault>) -> ExitStatus
-        // The exit status is `Ended` if the stream ended between two requests, and `CutOff` if the
-        // stream ended inside a request. The exit status is `Malformed` if bytes arrived that are
-        // not a request. The exit status is `Failed` if a read or a write failed, or if the server
-        // could not start.
         ensures { result ≡ exit_status ending }
     {
         match ending {
@@ -36,9 +32,9 @@ impl ExitStatus {
         }
     }
 
-    /// Returns the exit status of the program as a number.
+    /// Returns the number of the exit status: 0 for `Ended`, 1 for `Failed`, 2 for `CutOff` and 3
+    /// for `Malformed`.
     pub fn code(self) -> u8
-        // `code` returns 0 for `Ended`, 1 for `Failed`, 2 for `CutOff` and 3 for `Malformed`.
         ensures { result ≡ exit_code self }
     {
         match self {

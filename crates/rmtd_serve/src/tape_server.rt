@@ -15,9 +15,8 @@ use std::alloc::{AllocError, Global};
 use std::io::{Read, Write};
 use std::marker::Model;
 
-/// Drives with their stacks, which serve one stream after the other.
-///
-/// Contracts describe its stacks. Between two streams no session holds a drive.
+/// Drives with their stacks. Contracts describe the stacks. Between two streams no session holds a
+/// drive.
 #[derive(Drop)]
 pub struct TapeServer<S: Stacks + Drop> {
     alloc: Global,
@@ -44,8 +43,6 @@ impl<S: Stacks + Drop> TapeServer<S> {
         requires some { 1 ≤ drives }
         requires few { drives ≤ DRIVE_LIMIT }
         requires enough { S.drives stacks ≤ drives }
-        // The new server has the given stacks, unchanged. The invariant of `TapeServer` says that
-        // no session holds a drive of the server at the start or between two streams.
         ensures { IfOk result (λ s. s ≡ stacks) }
     {
         let holds = LocalHolds::new(alloc, drives)?;
@@ -53,7 +50,6 @@ impl<S: Stacks + Drop> TapeServer<S> {
         Ok(TapeServer { alloc, drives })
     }
 
-    /// Returns the stacks.
     pub(crate) fn stacks(&self) -> &S {
         &self.drives.stacks
     }
@@ -69,16 +65,6 @@ impl<S: Stacks + Drop> TapeServer<S> {
         input: &mut Counted<R>,
         output: &mut Counted<W>,
     ) -> Result<Served, SessionFault>
-        // Each stream is served in a new session. The session has no drive open before and after
-        // the stream. Every drive is free when the session begins. Suppose that the contract of the
-        // stacks says what the stacks contain. Then no request to open a drive finds the drive
-        // busy. `TapeServer::serve` keeps the promises of the call `serve` of `rmt_server` for the
-        // stream. If the input or the output failed, `TapeServer::serve` returns `Stream` with the
-        // fault that `serve` of `rmt_server` returned.
-        //
-        // `TapeServer::serve` returns `OutOfMemory` if an allocation failed before the first
-        // request was read. `TapeServer::serve` returns `NoSeat` if no number is left for the seat
-        // of a new session. In both cases the stacks and both streams are untouched.
         ensures { IsServedAt (kinds of_holds S.Stacks S.Reel.Reel) (streams_kind R.remaining W.contents) self.old self.new
             (streams input.old output.old) (streams input.new output.new) result }
     {

@@ -23,7 +23,6 @@ pub(crate) struct UnusedSeats<'t, S: Stacks + Drop, B: NamesTable> {
 }
 
 impl<'t, S: Stacks + Drop, B: NamesTable> UnusedSeats<'t, S, B> {
-    /// Makes the store of these seats of `table` and of the stacks for them.
     pub(crate) fn new(table: &'t HoldTable, seats: Vec<HoldSeat>, stacks: Vec<S>) -> Self
         requires here { table.now ≡ B.table }
         requires seats { All (λ s. IsSeatAt B.table s × HoldsJust s.view None) seats.items }

@@ -1,6 +1,4 @@
 //! A log of warnings on standard error, for a server whose replies are on standard output.
-//!
-//! `start` says whether a log line begins with the time.
 
 use crate::error_log::ErrorLog;
 use crate::line_start::LineStart;
@@ -10,26 +8,20 @@ use std::io::{self, ErrorKind};
 use std::path::PathBuf;
 use std::rt::Clock;
 
-/// The link to the file of standard output.
 const OUTPUT: &str = "/proc/self/fd/1";
 
-/// The link to the file of standard error.
 const ERROR: &str = "/proc/self/fd/2";
 
-/// A log of failures on standard error, for one client on standard input and standard output. Other
-/// lines are dropped.
-///
-/// If standard error is the same stream as standard output, as with inetd, it logs nothing, because
-/// the lines would be mixed with the replies. It also logs nothing if the system does not report
-/// what the streams are.
+/// A log of failures alone. If standard error and standard output are the same stream, as with
+/// inetd, it logs nothing, because the lines would be mixed with the replies. It also logs nothing
+/// if the system does not report what the streams are.
 #[derive(Drop)]
 pub(crate) struct Warnings<R> {
     log: Option<ErrorLog<R>>,
 }
 
 impl<R: FolderSystem> Warnings<R> {
-    /// Makes a log on the standard error of this runtime, whose lines begin as `start` says. It
-    /// fails only if an allocation fails.
+    /// Makes the log. It fails only if an allocation fails.
     pub(crate) fn new(rt: R, start: LineStart) -> io::Result<Warnings<R>> {
         if !is_apart(&rt)? {
             return Ok(Warnings { log: None });

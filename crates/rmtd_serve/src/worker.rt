@@ -32,8 +32,6 @@ pub(crate) struct Worker<'t, S: Stacks + Drop, B: NamesTable> {
 }
 
 impl<'t, S: Stacks + Drop, B: NamesTable> Worker<'t, S, B> {
-    /// Takes a seat of this table that holds no drive, and stacks with no more drives than the
-    /// table has.
     pub(crate) fn new(table: &'t HoldTable, seat: HoldSeat, stacks: S) -> Self
         requires here { table.now ≡ B.table }
         requires seat { IsSeatAt B.table seat }
@@ -48,7 +46,6 @@ impl<'t, S: Stacks + Drop, B: NamesTable> Worker<'t, S, B> {
         }
     }
 
-    /// Returns the seat, which holds no drive.
     pub(crate) fn into_seat(self) -> HoldSeat
         ensures seat { IsSeatAt B.table result }
         ensures idle { HoldsJust result.view None }

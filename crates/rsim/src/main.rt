@@ -1,13 +1,12 @@
 //! The simulator of a dump client, a tape server and other clients.
 #![tactic(auto)]
 
-use exit_status::ExitStatus;
+use console::ExitStatus;
 use rmt_wire::Counted;
 use rsim_schedule::rsim;
 use std::process::ExitCode;
 use std::{env, io};
 
-/// Runs the simulator with its arguments, and exits with its status.
 fn main(rt: HostRuntime) -> ExitCode {
     let mut out = Counted::new(rt.stdout());
     let status = match arguments(&rt) {
@@ -22,8 +21,6 @@ fn main(rt: HostRuntime) -> ExitCode {
 }
 
 /// Returns the arguments of the program, with its own name first.
-///
-/// Fails if the arguments cannot be read, or if an allocation fails.
 fn arguments(rt: &HostRuntime) -> io::Result<Vec<String>> {
     let mut arguments = Vec::new(rt.alloc());
     for argument in env::args(rt)? {

@@ -12,7 +12,6 @@ pub(crate) fn file_in<'a>(alloc: Global, arguments: &'a [&'a str]) -> Result<&'a
     Ok(matches.get_str("file").unwrap_or(""))
 }
 
-/// Builds the command `rsim` with its one argument.
 fn command<'a>(alloc: Global) -> Result<Command<'a>, AllocError> {
     let file = Arg::new(alloc, "file")
         .value_name("FILE")

@@ -1,4 +1,4 @@
-//! How many of the bytes in transit arrive.
+//! Counts of bytes that arrive.
 
 /// How many of the bytes in transit on a connection arrive, as a line of a schedule gives it.
 #[derive(Clone, Copy)]
@@ -10,8 +10,7 @@ pub(crate) enum ByteCount {
 }
 
 impl ByteCount {
-    /// Returns how many bytes arrive if `all` can: `all` for `All`, and otherwise the count, even
-    /// if it is more than `all`.
+    /// Returns how many bytes arrive if `all` can. With `Exactly` this can be more than `all`.
     pub(crate) fn resolve(self, all: usize) -> usize {
         match self {
             ByteCount::All => all,

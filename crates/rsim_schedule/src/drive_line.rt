@@ -1,4 +1,4 @@
-//! A drive, as its line in a schedule describes it.
+//! A drive of a schedule.
 
 /// A drive of a schedule: its device, the capacity of each of its reels in bytes, and their names.
 #[derive(Drop)]

@@ -19,7 +19,7 @@ impl<'a> HexText<'a> {
         Some(HexText { digits })
     }
 
-    /// Returns the bytes. Fails if an allocation fails.
+    /// Returns the bytes.
     pub(crate) fn bytes(&self, alloc: Global) -> Result<Vec<u8>, AllocError> {
         let mut bytes = Vec::new(alloc);
         for pair in self.digits.chunks(2) {
@@ -37,7 +37,6 @@ fn byte_of(digits: &[u8]) -> u8 {
     }
 }
 
-/// Whether the byte is a lower case hexadecimal digit.
 fn is_digit(byte: &u8) -> bool {
     matches!(*byte, b'0'..=b'9' | b'a'..=b'f')
 }

@@ -140,7 +140,6 @@ fn read_says<'a>(fields: &mut LineFields<'a>) -> Option<ScheduleLine<'a>> {
     }
 }
 
-/// Reads the fields of a command that has no device and no bytes.
 fn read_act(command: &str, fields: &mut LineFields<'_>) -> Option<Action> {
     match command {
         "to-server" => read_arrival(End::Server, fields),

@@ -11,12 +11,12 @@ use rmt_wire::argument::number_of;
 /// The fields of a line that are still to be read. One space separates them.
 #[derive(Clone, Copy)]
 pub(crate) struct LineFields<'a> {
-    // What is left of the line; `None` after its last field.
+    // The rest of the line; `None` after its last field.
     pub(crate) rest: Option<&'a [u8]>,
 }
 
 impl<'a> LineFields<'a> {
-    /// Returns the fields of a text, to be read one after the other. `None` has no fields.
+    /// Returns the fields of a text. `None` has no fields.
     pub(crate) fn new(rest: Option<&'a [u8]>) -> LineFields<'a> {
         LineFields { rest }
     }

@@ -8,7 +8,7 @@ use crate::cut::cut;
 /// Lines count from 1. Before the first command `number` is 1.
 #[derive(Clone, Copy)]
 pub(crate) struct ScheduleLines<'a> {
-    // What is left of the text; `None` after its last line.
+    // The rest of the text; `None` after its last line.
     pub(crate) rest: Option<&'a [u8]>,
     // How many lines were read.
     passed: usize,
@@ -18,7 +18,6 @@ pub(crate) struct ScheduleLines<'a> {
 }
 
 impl<'a> ScheduleLines<'a> {
-    /// Returns the lines of a text, to be read one after the other.
     pub(crate) fn new(text: &'a [u8]) -> ScheduleLines<'a> {
         ScheduleLines {
             rest: Some(text),

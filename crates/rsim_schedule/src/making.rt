@@ -12,8 +12,6 @@ use tape::Trouble;
 use tape_world::{Event, World, WorldFault, run};
 
 /// Runs an event, and prints the attempt that it makes fail, if any.
-///
-/// Fails if the event is not possible, an allocation fails, or the write fails.
 pub(crate) fn make<W: Write>(
     world: &mut World,
     event: Event<'_>,
@@ -38,8 +36,7 @@ fn print_failed<W: Write>(world: &World, out: &mut Counted<W>) -> Result<(), Hal
     }
 }
 
-/// Runs an event if it is possible, and prints the attempt that it made fail, if any. Returns
-/// whether it was possible. Fails if an allocation or the write fails.
+/// Like `make`, but returns whether the event was possible.
 fn run_if_possible<W: Write>(
     world: &mut World,
     event: Event<'_>,
@@ -54,8 +51,7 @@ fn run_if_possible<W: Write>(
     }
 }
 
-/// Runs up to `rounds` rounds on a connection. It stops after a round in which nothing was
-/// possible.
+/// Runs up to `rounds` rounds on a connection, and stops after one in which nothing was possible.
 pub(crate) fn pump<W: Write>(
     world: &mut World,
     connection: usize,

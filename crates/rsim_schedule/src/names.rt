@@ -27,8 +27,8 @@ pub(crate) struct Names<'a> {
 }
 
 impl<'a> Names<'a> {
-    /// Reads names of reels from the fields of a text. `text` is `None` if there are no fields.
-    /// Returns `None` if a field is not the name of a reel.
+    /// Reads names of reels from the fields of a text. Returns `None` if a field is not the name of
+    /// a reel.
     pub(crate) fn new(text: Option<&'a [u8]>) -> Option<Names<'a>> {
         let mut fields = LineFields::new(text);
         while let Some(field) = fields.field() {
@@ -39,7 +39,7 @@ impl<'a> Names<'a> {
         Some(Names { text })
     }
 
-    /// Returns the names as a list. Fails if an allocation fails.
+    /// Returns the names as a list.
     pub(crate) fn list(&self, alloc: Global) -> Result<Vec<&'a [u8]>, AllocError> {
         let mut list = Vec::new(alloc);
         push_fields(&mut list, LineFields::new(self.text))?;
@@ -47,7 +47,6 @@ impl<'a> Names<'a> {
     }
 }
 
-/// Appends all remaining fields. Fails if an allocation fails.
 fn push_fields<'a>(list: &mut Vec<&'a [u8]>, mut fields: LineFields<'a>) -> Result<(), AllocError> {
     while let Some(field) = fields.field() {
         list.push(field)?;

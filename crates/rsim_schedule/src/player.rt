@@ -88,8 +88,7 @@ fn begin_run<W: Write>(
     }
 }
 
-/// Starts a run. Each byte of block i is i modulo 256. Fails if another run is under way, or if an
-/// allocation fails.
+/// Starts a run with its payload. Not possible while another run is under way.
 fn start_run<W: Write>(
     alloc: Global,
     world: &mut World,
@@ -126,7 +125,6 @@ fn payload_of(alloc: Global, run: &Run) -> Result<Vec<u8>, AllocError> {
     Ok(payload)
 }
 
-/// Appends the block of this number: `bytes` bytes, each of which is `block` modulo 256.
 fn push_block(payload: &mut Vec<u8>, block: u32, bytes: usize) -> Result<(), AllocError> {
     let end = payload.len().saturating_add(bytes);
     payload.resize(end, (block % 256) as u8)

@@ -1,6 +1,6 @@
-//! What is printed while a schedule runs, and when it ends early.
+//! Prints failed attempts, and why a schedule ends early.
 ghost use Rattle.std.specs.Prelude.{◌≡◌, ◌≤◌, ◌++◌, Bool, length, codes, decimal, if◌then◌else◌, IfErr};
-ghost use Rattle.exit_status.specs.declared.status.ExitStatus.TheVariants.{Abnormal};
+ghost use Rattle.console.specs.declared.status.ExitStatus.TheVariants.{Abnormal};
 ghost use Rattle.rdump_net.specs.Lines.{failure_line as line_of};
 ghost use Rattle.rmt_wire.specs.Print.{IsPrinted};
 ghost use Rattle.rsim_schedule.specs.Playing.{is_whole};
@@ -9,8 +9,8 @@ ghost use Rattle.rsim_schedule.specs.declared.halt.Halt.TheVariants.{StreamFaile
 
 use crate::halt::Halt;
 use arrayvec::ArrayString;
+use console::ExitStatus;
 use dump_client::AttemptFault;
-use exit_status::ExitStatus;
 use itoa::Buffer;
 use rdump_net::{LINE_ROOM, failure_line};
 use rmt_wire::{Counted, print_text};
@@ -71,7 +71,6 @@ fn print_last<W: Write>(
     }
 }
 
-/// Builds the last line of a schedule that ends early.
 fn halt_text(number: usize, what: &str) -> ArrayString<LINE_ROOM>
     requires { length what.now ≤ 16 }
     ensures { result.bytes ≡ codes "line " ++ decimal number ++ what.now }

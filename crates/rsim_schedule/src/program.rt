@@ -1,19 +1,19 @@
 //! The program `rsim`.
 ghost use Rattle.std.specs.Prelude.{◌≡◌, ◌⊎◌, OnErr, IfOk};
-ghost use Rattle.exit_status.specs.declared.status.ExitStatus.TheVariants.{StartupError, Success};
+ghost use Rattle.console.specs.declared.status.ExitStatus.TheVariants.{StartupError, Success};
 ghost use Rattle.rsim_schedule.specs.Ending.{IsRsim};
 
 use crate::arguments::file_in;
 use crate::running::schedule;
 use clap::error::ErrorKind;
-use exit_status::ExitStatus;
+use console::ExitStatus;
 use rmt_wire::Counted;
 use std::io::Write;
 use std::rt::Files;
 use std::{fs, io};
 
-/// Runs the program `rsim`, which runs the schedule in the file that the arguments name. The call
-/// prints on `out` as `schedule` does. The first argument is the name of the program itself.
+/// Runs the program `rsim`: runs the schedule in the file that the arguments name, and prints on
+/// `out` as `schedule` does. The first argument is the name of the program itself.
 ///
 /// Returns the exit status of the schedule. If the arguments are wrong or the file cannot be read,
 /// it prints one line on standard error and returns `StartupError`. It does the same if parsing the
@@ -27,12 +27,8 @@ pub fn rsim<R: Files + Print + Eprint + AllocGlobal, W: Write>(
     arguments: &[String],
     out: &mut Counted<W>,
 ) -> io::Result<ExitStatus>
-    // If the call runs a schedule, the call keeps the promises of `schedule`, and returns the
-    // status that `schedule` returns. If the call runs no schedule, it prints nothing on `out`, and
-    // returns `Success` or `StartupError`. No clause says which argument names the schedule's file,
-    // or what the file contains.
+    // No clause says which argument names the schedule's file, or what the file contains.
     ensures ended { IfOk result (λ status. IsRsim W.contents out.old status out.new) }
-    // If the call fails, it prints nothing on `out`.
     ensures failed { OnErr result (out.new ≡ out.old) }
 {
     let mut lent = Vec::new(rt.alloc());
@@ -45,8 +41,7 @@ pub fn rsim<R: Files + Print + Eprint + AllocGlobal, W: Write>(
     }
 }
 
-/// Runs the schedule in a file, and returns the exit status. If the file cannot be read, prints one
-/// line on standard error.
+/// Runs the schedule in a file, and returns the exit status.
 fn run_file<R: Files + Eprint + AllocGlobal, W: Write>(
     rt: &R,
     file: &str,
@@ -62,7 +57,7 @@ fn run_file<R: Files + Eprint + AllocGlobal, W: Write>(
 }
 
 /// Prints what clap returned in place of matches, and returns the exit status. Help or the version
-/// is printed on standard output. For wrong arguments, one line is printed on standard error.
+/// is printed on standard output, and one line for wrong arguments on standard error.
 fn refuse<R: Print + Eprint>(rt: &R, error: clap::Error) -> io::Result<ExitStatus>
     ensures { IfOk result (λ status. (status ≡ Success) ⊎ (status ≡ StartupError)) }
 {

@@ -59,7 +59,6 @@ fn push_all_reels(
     Ok(())
 }
 
-/// Appends a line for each of these reels.
 fn push_reels(text: &mut Vec<u8>, world: &World, reels: &[&[u8]]) -> Result<(), AllocError>
     ensures { OnOk result (text.new.items ≡ text.old.items ++ flat_map (reel_line world.now) (map (λ n. n.now) reels.now)) }
 {
@@ -80,8 +79,7 @@ fn push_reel(text: &mut Vec<u8>, world: &World, reel: &[u8]) -> Result<(), Alloc
     push_text(text, "\n")
 }
 
-/// Appends the length of each entry of a reel, in order, and ` M` for a mark. Fails if an
-/// allocation fails.
+/// Appends the entries of a reel, in order.
 fn push_entries(text: &mut Vec<u8>, world: &World, reel: &[u8]) -> Result<(), AllocError>
     ensures { OnOk result (text.new.items ≡ text.old.items ++ flat_map entry_text (entries_of_reel world.now reel.now)) }
 {
@@ -104,7 +102,6 @@ fn push_entry(text: &mut Vec<u8>, length: usize) -> Result<(), AllocError>
     push_number(text, " R", length as u64)
 }
 
-/// Appends a line for the stack of each drive.
 fn push_stacks(
     text: &mut Vec<u8>,
     world: &World,
@@ -141,7 +138,6 @@ fn push_names(text: &mut Vec<u8>, keyword: &str, reels: &[ListedReel]) -> Result
     push_text(text, "\n")
 }
 
-/// Appends a space and a name.
 fn push_name(text: &mut Vec<u8>, name: &[u8]) -> Result<(), AllocError>
     ensures { OnOk result (text.new.items ≡ text.old.items ++ (codes " " ++ name.now)) }
 {
@@ -149,7 +145,6 @@ fn push_name(text: &mut Vec<u8>, name: &[u8]) -> Result<(), AllocError>
     text.extend_from_slice(name)
 }
 
-/// Appends a line for each volume that was counted.
 fn push_counts(text: &mut Vec<u8>, world: &World) -> Result<(), AllocError>
     ensures { OnOk result (text.new.items ≡ text.old.items ++ flat_map count_line world.now.counts) }
 {
@@ -162,7 +157,6 @@ fn push_counts(text: &mut Vec<u8>, world: &World) -> Result<(), AllocError>
     Ok(())
 }
 
-/// Appends the line of a volume that was counted.
 fn push_count(text: &mut Vec<u8>, count: CountedVolume<'_>) -> Result<(), AllocError>
     ensures { OnOk result (text.new.items ≡ text.old.items ++ count_line (plain_count count.entry)) }
 {
@@ -194,7 +188,6 @@ fn push_number(text: &mut Vec<u8>, before: &str, number: u64) -> Result<(), Allo
     push_text(text, digits.format(number))
 }
 
-/// Appends a text.
 fn push_text(text: &mut Vec<u8>, more: &str) -> Result<(), AllocError>
     ensures { OnOk result (text.new.items ≡ text.old.items ++ more.now) }
 {

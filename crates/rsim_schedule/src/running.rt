@@ -11,7 +11,7 @@ use crate::player::play_all;
 use crate::printing::{print_all, print_halt};
 use crate::report::report_of;
 use crate::setup::{read_drives, world_of};
-use exit_status::ExitStatus;
+use console::ExitStatus;
 use rmt_wire::Counted;
 use std::alloc::Global;
 use std::io::Write;
@@ -28,27 +28,8 @@ use tape_world::World;
 /// Returns the exit status of `rsim`: `Success` if all lines were run, `StartupError` if a line is
 /// faulty, and `Abnormal` if an allocation or a write failed.
 pub fn schedule<W: Write>(alloc: Global, text: &[u8], out: &mut Counted<W>) -> ExitStatus
-    // The call has three outcomes. In the first outcome, the call returns `Success`. The call
-    // prints one line for each failed attempt to write a volume, and then a report of the world.
-    // There is a list of events that, in a new world, produces exactly these lines and this report.
-    // The function `good_drives` in `tape_world` returns true for the drives of the new world. So
-    // there are 1 to 64 drives, no two drives have the same name, and no two reels have the same
-    // name. For each reel, the report has one line, which lists the reel's marks and the lengths of
-    // its records. Further lines contain the stacks, the bin, the counted volumes, and the text of
-    // the dumpdates file.
-    //
-    // In the second outcome, the schedule ends early. The call first prints one line for each
-    // attempt that failed. There is a list of events that, in a new world, produces exactly these
-    // lines. The call then prints why the schedule ended early, with the number of the schedule's
-    // line at which it ended. The call returns `StartupError` if this line is bad, or if the event
-    // in this line is not possible. The call returns `Abnormal` if an allocation fails.
-    //
-    // The private call `print_halt` prints why a schedule ended early. Each reason has a text of
-    // its own.
-    //
-    // In the third outcome, a write on `out` fails, and the call returns `Abnormal`. The call
-    // prints nothing after the failed write. The printed text is a beginning of a text that the
-    // call could print in the first or the second outcome.
+    // The lines before the report, or before the reason of a halt, are exactly those of some list
+    // of events in a new world of good drives.
     ensures { IsScheduled W.contents out.old result out.new }
 {
     let mut lines = ScheduleLines::new(text);
@@ -58,7 +39,6 @@ pub fn schedule<W: Write>(alloc: Global, text: &[u8], out: &mut Counted<W>) -> E
     }
 }
 
-/// Runs all lines, and prints the report.
 fn run_all<W: Write>(
     alloc: Global,
     lines: &mut ScheduleLines<'_>,
@@ -86,7 +66,6 @@ fn run_at<W: Write>(
     }
 }
 
-/// Runs the remaining lines in a world in which nothing has happened yet, and prints the report.
 fn play_and_report<W: Write>(
     alloc: Global,
     world: &mut World,

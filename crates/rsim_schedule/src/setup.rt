@@ -29,9 +29,7 @@ pub(crate) fn read_drives<'a>(
     Ok(drives)
 }
 
-/// Adds the drives at the beginning of a schedule to `drives`, which must be empty. Fails with
-/// `BadLine` if the first command is not a drive, if there is no command, or if a world cannot have
-/// these drives. Fails with `OutOfMemory` if an allocation fails.
+/// Like `read_drives`, but adds the drives to `drives`, which must be empty.
 fn add_drives<'a>(
     alloc: Global,
     drives: &mut Vec<DriveLine<'a>>,
@@ -62,8 +60,7 @@ fn add_drives<'a>(
     Ok(())
 }
 
-/// Adds a drive after the others. Fails with `BadLine` if a world cannot have them all, and with
-/// `OutOfMemory` if an allocation fails.
+/// Adds a drive after the others. Fails with `BadLine` if a world cannot have them all.
 fn add_drive<'a>(
     alloc: Global,
     drives: &mut Vec<DriveLine<'a>>,
@@ -86,7 +83,7 @@ fn add_drive<'a>(
     Err(Halt::BadLine)
 }
 
-/// Returns whether a world can have these drives. Fails if an allocation fails.
+/// Returns whether a world can have these drives.
 fn are_valid_drives(alloc: Global, drives: &[DriveLine<'_>]) -> Result<bool, AllocError>
     ensures { IfOk result (λ good. (good ≡ true) ↔ AreGoodDrives (map plain_line drives.now)) }
 {
@@ -103,8 +100,7 @@ pub(crate) fn world_of(alloc: Global, drives: &[DriveLine<'_>]) -> Result<World,
     World::new(alloc, &specs)
 }
 
-/// Returns a `DriveSpec` for each of these drives, in order, as `World::new` takes them. Fails if
-/// an allocation fails.
+/// Returns a `DriveSpec` for each of these drives, in order.
 fn specs_of<'a>(
     alloc: Global,
     drives: &'a [DriveLine<'_>],
@@ -118,7 +114,6 @@ fn specs_of<'a>(
     Ok(specs)
 }
 
-/// Returns the `DriveSpec` of a drive that a line of the schedule describes.
 fn spec_of<'a>(drive: &'a DriveLine<'_>) -> DriveSpec<'a>
     ensures { plain_drive_spec result ≡ plain_line drive.entry.now }
 {

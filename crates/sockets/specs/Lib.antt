@@ -1,1 +1,2 @@
--- This crate has no definitions: no contract describes what a socket does.
+-- The form of an address. No contract describes what a socket does.
+pub mod Address

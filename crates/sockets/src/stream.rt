@@ -1,31 +1,25 @@
 //! A connection.
 ghost use Rattle.std.specs.Prelude.{◌≡◌, IfOk, Ok};
 
-use address::path_of;
+use crate::path_of;
 use std::io::{self, ErrorKind, Read, Write};
 use std::net::{Net, OpenStream, TcpStream, ToSocketAddrs};
 use std::os::unix::net::UnixStream;
 use std::time::Duration;
 
-/// A connection over TCP, or over a Unix socket.
-///
-/// A read or a write that a signal interrupted is made again. One that waited for longer than
-/// `make_ready` allows fails with `ErrorKind::TimedOut`.
+/// A connection over TCP or a Unix socket. A call that a signal interrupted is made again. One that
+/// waited for longer than `make_ready` allows fails with `TimedOut`.
 #[derive(Drop)]
 pub enum Stream<S> {
-    /// A connection over TCP.
     Tcp(S),
-    /// A connection over a Unix socket.
     Unix(UnixStream),
 }
 
-/// Connects to the server at the given address, which is a host and a port, or `unix:` and a path.
-/// The connection is made ready with `wait`.
+/// Connects to the server at an address, and makes the connection ready with `wait`.
 ///
-/// `wait` also limits how long each address of a host may take to answer; None is no limit. It does
-/// not limit the search for the addresses of a host, or the connection to a Unix socket.
-///
-/// Fails with the system's error, with `TimedOut` if no address answered in time.
+/// `wait` also limits how long each address of a host may take to answer (then `TimedOut`), but not
+/// the search for these addresses or the connection to a Unix socket. Fails with the system's
+/// error.
 pub fn connect<R: Net>(
     net: &R,
     address: &str,
@@ -39,7 +33,6 @@ pub fn connect<R: Net>(
     Ok(stream)
 }
 
-/// Connects to a host and a port. Each address of the host may take as long as `wait` says.
 fn connect_to_host<R: Net>(
     net: &R,
     address: &str,
@@ -51,8 +44,6 @@ fn connect_to_host<R: Net>(
     }
 }
 
-/// Connects to the first address of a host that answers within `wait`. Fails with the error of the
-/// last address.
 fn connect_within<R: Net>(net: &R, address: &str, wait: Duration) -> io::Result<R::Stream> {
     let mut last = io::Error::from(ErrorKind::AddrNotAvailable);
     for place in address.to_socket_addrs(net)? {
@@ -65,11 +56,8 @@ fn connect_within<R: Net>(net: &R, address: &str, wait: Duration) -> io::Result<
 }
 
 impl<S: OpenStream> Stream<S> {
-    /// Sets `wait` as the timeout of each read and each write, and sets TCP_NODELAY if the
-    /// connection is over TCP. None sets no limit.
-    ///
-    /// The limit holds for each handle of the connection. Fails with the system's error, and if
-    /// `wait` is no time at all.
+    /// Sets `wait` as the timeout of each read and write of all handles; None sets no limit. Sets
+    /// TCP_NODELAY over TCP. Fails with the system's error, and if `wait` is zero.
     pub fn make_ready(&self, wait: Option<Duration>) -> io::Result<()> {
         match self {
             Stream::Tcp(stream) => {
@@ -89,8 +77,7 @@ impl<S: OpenStream> Stream<S> {
         Ok(())
     }
 
-    /// Returns another handle of the same connection. The connection is closed when its last handle
-    /// is dropped.
+    /// Returns another handle. The last one that is dropped closes the connection.
     pub fn try_clone(&self) -> io::Result<Stream<S>> {
         match self {
             Stream::Tcp(stream) => Ok(Stream::Tcp(stream.try_clone()?)),
@@ -99,8 +86,7 @@ impl<S: OpenStream> Stream<S> {
     }
 }
 
-/// Returns the result of a read or a write. The system says `WouldBlock` if the call waited for too
-/// long; this becomes `TimedOut`.
+/// `WouldBlock` means that the call waited for too long.
 fn timed(found: io::Result<usize>) -> io::Result<usize>
     ensures { IfOk result (λ count. found ≡ Ok count) }
 {
@@ -110,9 +96,8 @@ fn timed(found: io::Result<usize>) -> io::Result<usize>
     }
 }
 
-/// Whether a signal interrupted the call that failed with this error. The call is then made again.
-/// If a process is stopped and continued, its calls that have a limit of time are interrupted, even
-/// if it handles no signal (signal(7)).
+/// Stopping and continuing a process interrupts its calls with a limit of time, even if it handles
+/// no signal (signal(7)).
 fn is_interrupted(why: &io::Error) -> bool {
     why.kind() == ErrorKind::Interrupted
 }

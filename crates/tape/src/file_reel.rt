@@ -1,4 +1,4 @@
-//! A reel whose entries are on a medium.
+//! A reel on a medium.
 
 ghost use Rattle.std.specs.Prelude.{◌≡◌, ◌+◌, ◌*◌, ◌^◌, ◌<◌, ◌≤◌, ◌↔◌, List, ℕ, IfOk, IfErr, IsErr, OnErr, IsTrue, MatchResult, [], ◌∷◌, length, replicate, false};
 ghost use Rattle.tape.specs.Tape.{PlainEntry, IsRecord, tape, done_answer};
@@ -42,35 +42,28 @@ impl<M: Medium> Model for FileReel<M> {
 }
 
 impl<M: Medium> FileReel<M> {
-    /// Returns a reference to the medium that stores the reel's entries.
+    /// Returns the medium that stores the reel's entries.
     pub fn medium(&self) -> &M
-        // `medium` returns a reference to the reel's medium. The types allow no other body, so no
-        // wrong body is tried.
+        // The types allow no other body, so no wrong body is tried.
         ensures { result.now ≡ self.now.medium }
     {
         &self.medium
     }
 
-    /// Consumes the reel, and returns the medium that stores the reel's entries. Makes no call of
-    /// the medium.
+    /// Returns the reel's medium. Makes no call of it.
     pub fn into_medium(self) -> M
-        // `into_medium` returns the reel's medium unchanged. So `FileReel::open` can open the reel
-        // again on this medium.
         ensures { result ≡ self.medium }
     {
         let FileReel { medium, .. } = self;
         medium
     }
 
-    /// Opens the reel whose entries are on the given medium, with the given capacity in bytes. The
-    /// place is at the beginning. Makes no call of the medium.
+    /// Opens the reel whose entries are on `medium`, with a capacity in bytes. The place is at the
+    /// beginning. Makes no call of the medium.
     ///
     /// Ignores bytes after the last whole entry; the next write cuts them off. Entries beyond the
     /// capacity can be read like others.
     pub fn open(medium: M, capacity: u64) -> FileReel<M>
-        // If the medium's bytes are known, the opened reel has the entries that these bytes encode.
-        // The place is at the beginning. The opened reel has the given medium and the given
-        // capacity.
         ensures told { (bytes : List ℕ) (entries : List PlainEntry) →
             M.holds medium bytes → SpellsReel bytes entries → HoldsTape M.holds result (tape [] entries) }
         ensures medium { result.medium ≡ medium }
@@ -84,7 +77,6 @@ impl<M: Medium> FileReel<M> {
         }
     }
 
-    /// Returns the offset of the place, in bytes.
     pub(crate) fn offset(&self) -> u64
         ensures { result ≡ self.now.offset }
     {
@@ -107,8 +99,6 @@ impl<M: Medium> FileReel<M> {
     }
 
     /// Cuts off all entries from the place on.
-    ///
-    /// Fails with `Device` if the medium fails. The entries are unchanged then, or cut.
     pub(crate) fn cut(&mut self) -> Result<(), TapeFault>
         ensures run { AreReelCalls (medium_kind_of M.Medium) (PutsEntries [] result) 0 (IsErr result) self.old self.new }
         ensures device { IfErr result (λ fault. fault ≡ Device) }
@@ -118,9 +108,6 @@ impl<M: Medium> FileReel<M> {
     }
 
     /// Writes a record at the place, with nothing after it, and moves past it.
-    ///
-    /// Fails with `Device` if the medium fails. The place is unchanged then. After it remain the
-    /// old entries, none, or the record.
     #[tactic(auto, using(crate::proofs::Putting::ends_in))]
     pub(crate) fn put_record(&mut self, bytes: &[u8]) -> Result<(), TapeFault>
         requires record_is { IsRecord bytes.now }
@@ -135,10 +122,6 @@ impl<M: Medium> FileReel<M> {
         Ok(())
     }
 
-    /// Writes `count` marks at the place, with nothing after them, and moves past them.
-    ///
-    /// Fails with `Device` if the medium fails. The place is unchanged then. After it remain the
-    /// old entries, none, or some or all of the marks.
     pub(crate) fn put_marks(&mut self, count: u32) -> Result<(), TapeFault>
         requires { self.old.offset + 4 * count < 2 ^ 64 }
         ensures run { AreReelCalls (medium_kind_of M.Medium) (PutsEntries (replicate count Mark) result)
@@ -151,9 +134,7 @@ impl<M: Medium> FileReel<M> {
         Ok(())
     }
 
-    /// Writes `count` marks at the place, with nothing after them. A count of 0 changes nothing.
-    /// Fails with `Full` if there is no room for all of them, and with `Device` if the medium
-    /// fails.
+    /// Like `put_marks`, but fails with `Full` if the marks do not fit.
     fn write_marks(&mut self, count: u32) -> Result<(), TapeFault>
         ensures { IsTapeCall (file_reel_kind (medium_kind_of M.Medium)) self.old self.new (WriteMarks count) (done_answer result) }
     {
@@ -166,7 +147,6 @@ impl<M: Medium> FileReel<M> {
         self.put_marks(count)
     }
 
-    /// Moves past `count` marks, or to the end or the beginning if there are fewer.
     fn space_files(&mut self, way: Way, count: u32) -> Result<(), TapeFault>
         ensures { IsTapeCall (file_reel_kind (medium_kind_of M.Medium)) self.old self.new (files_request way count) (done_answer result) }
     {
@@ -175,8 +155,6 @@ impl<M: Medium> FileReel<M> {
         walked.answer()
     }
 
-    /// Moves past `count` records in this direction. Stops earlier if it has moved past a mark, or
-    /// at the end or the beginning of the tape.
     fn space_records(&mut self, way: Way, count: u32) -> Result<(), TapeFault>
         ensures { IsTapeCall (file_reel_kind (medium_kind_of M.Medium)) self.old self.new (records_request way count) (done_answer result) }
     {
@@ -187,9 +165,6 @@ impl<M: Medium> FileReel<M> {
 }
 
 impl FileReel<MemoryMedium> {
-    /// Reserves memory for `count` more bytes. The bytes and the place are unchanged.
-    ///
-    /// Fails with `OutOfMemory` if the allocation fails. Nothing changed then.
     pub(crate) fn reserve(&mut self, count: u64) -> Result<(), TapeFault>
         ensures room { MatchResult result (λ _. count ≤ self.new.medium.spare) (λ fault. (fault ≡ OutOfMemory) × (self.new ≡ self.old)) }
         ensures asked { OnErr result (self.old.medium.spare < count) }
@@ -203,20 +178,6 @@ impl FileReel<MemoryMedium> {
 }
 
 impl<M: Medium> Reel for FileReel<M> {
-    // write, read, op, rewind: If the medium's bytes are known, they encode a tape. Each call then
-    // answers and changes this tape as `TapeStep` allows. No call allocates.
-    //
-    // failures: Each call keeps the promises that every reel keeps (`IsTapeCall`), even if the
-    // medium's bytes are not known. The reel's count of failures is the medium's count of failures.
-    //
-    // makes: Each call also keeps the promises of `IsFileCall`. A call fails with `Device` only if
-    // the medium can fail, or if the medium has too little room for the bytes that the call is to
-    // write. If the medium cannot fail before a call, the medium cannot fail after the call. A call
-    // reduces the medium's room at most by the number of bytes that the call is to write. Suppose
-    // that the medium's bytes are known. A successful write of a record, or of at least one mark,
-    // replaces all bytes from the place on by the written bytes. The bytes before the place do not
-    // change.
-
     ghost holds = { HoldsTape M.holds };
 
     ghost capacity = { λ r. r.capacity };

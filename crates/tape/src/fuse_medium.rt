@@ -12,15 +12,15 @@ use std::marker::Model;
 
 /// A medium around another one that fails at a chosen call, to show what a stop there leaves.
 ///
-/// Its calls are numbered from 0. Each `len`, `read_at`, `append`, `append_framed` and `cut` is
-/// one call. A call that is due to fail acts as follows, and fails:
+/// Each `len`, `read_at`, `append`, `append_framed` and `cut` is one call. A call that is due to
+/// fail acts as follows, and fails:
 ///
 /// - `append` and `append_framed` add the first `left` of the bytes that they would add.
 /// - `cut` cuts if `left` is above 0.
 /// - `len` and `read_at` make no call of the inner medium, and leave the buffer unchanged.
 ///
-/// Each other call is passed to the inner medium, and succeeds only if no call of that failed.
-/// Each call that fails is counted once.
+/// Each other call is passed to the inner medium, and fails if that fails. Each failure is counted
+/// once.
 #[derive(Drop)]
 pub struct FuseMedium<M: Medium> {
     inner: M,
@@ -41,15 +41,9 @@ impl<M: Medium> Model for FuseMedium<M> {
 }
 
 impl<M: Medium> FuseMedium<M> {
-    /// Wraps `inner` in a medium whose call number `at`, counted from 0, fails.
-    ///
-    /// If `once`, no later call is made to fail; else each later call fails too. An append that is
-    /// due to fail adds its first `left` bytes.
+    /// Wraps `inner` in a medium whose call number `at`, counted from 0, is due to fail. If not
+    /// `once`, each later call is too. `left` is described above.
     pub fn new(inner: M, at: u64, left: usize, once: bool) -> FuseMedium<M>
-        // The new medium wraps the given inner medium. The argument `at` of `new` is the number of
-        // the call that is to fail. If the argument `once` is true, only this call is to fail. If
-        // `once` is false, all later calls are to fail too. The argument `left` says how many bytes
-        // an append still adds to the inner medium if the append is to fail.
         ensures { result ≡ record { inner = inner; to_go = Some at; left = left; once = once; failures = 0 } }
     {
         FuseMedium {
@@ -61,10 +55,8 @@ impl<M: Medium> FuseMedium<M> {
         }
     }
 
-    /// Consumes the `FuseMedium`, and returns the inner medium. Makes no call of it.
+    /// Returns the inner medium. Makes no call of it.
     pub fn into_inner(self) -> M
-        // `into_inner` returns the inner medium unchanged, so that a reel can be opened on the
-        // inner medium.
         ensures { result ≡ self.inner }
     {
         let FuseMedium { inner, .. } = self;
@@ -87,7 +79,7 @@ impl<M: Medium> FuseMedium<M> {
         is_due
     }
 
-    /// Returns the result of the inner medium, `answer`. Counts it if it is a failure.
+    /// Returns the inner medium's result, and counts a failure.
     fn pass<T>(&mut self, answer: Result<T, MediumFailed>) -> Result<T, MediumFailed>
         ensures same { result ≡ answer }
         ensures new { self.new ≡ record self.old { failures = if is_err answer then raised self.old.failures else self.old.failures } }
@@ -98,7 +90,6 @@ impl<M: Medium> FuseMedium<M> {
         answer
     }
 
-    /// Counts a failure.
     fn fail(&mut self)
         ensures { self.new ≡ record self.old { failures = raised self.old.failures } }
     {
@@ -107,37 +98,7 @@ impl<M: Medium> FuseMedium<M> {
 }
 
 impl<M: Medium> Medium for FuseMedium<M> {
-    // counted: The medium numbers its calls from 0. A call of `append_framed` counts as one call.
-    // The argument `at` of `new` is the number of the call that is *due to fail*. If the argument
-    // `once` of `new` is false, all later calls are due to fail too. If `once` is true, no later
-    // call is due to fail.
-    //
-    // stopped: A call that is due to fail does fail.
-    //
-    // passed: If a call is not due to fail, the call fails only if the inner medium can fail, or if
-    // the inner medium has too little room for the bytes that the call is to add.
-    //
-    // append, append_framed, left: Suppose that a call of `append` or `append_framed` is due to
-    // fail. The call adds at most the first `left` (an argument of `new`) of the bytes that it is
-    // to add. If the inner medium cannot fail and has room, the call adds exactly these first
-    // `left` bytes, or all bytes if there are fewer.
-    //
-    // cut, kept, made: A call of `cut` that is due to fail takes the argument `left` of `new` as a
-    // switch. If `left` is 0, the call leaves the inner medium unchanged. If `left` is at least 1
-    // and the inner medium cannot fail, the call cuts the inner medium and then fails.
-    //
-    // len, read_at, kept, buffer: If a call of `len` or `read_at` is due to fail, the call changes
-    // neither the inner medium nor the caller's buffer.
-    //
-    // failures: Each call that fails raises the count of failures by one, up to the greatest `u64`.
-    // No other call changes this count.
-    //
-    // unfailed: A call that is not due to fail calls the inner medium. If the inner medium then
-    // fails, the call fails too. So a call cannot hide a failure of the inner medium by trying
-    // again.
-    //
-    // call, same: Each call keeps the promises that every medium keeps (`IsMediumCall`). If the
-    // inner medium's bytes are known, they are also the bytes of the `FuseMedium`.
+    // `unfailed`: no call can hide a failure of the inner medium by trying again.
 
     ghost holds = { λ f bytes. M.holds f.inner bytes };
 
@@ -253,9 +214,6 @@ impl<M: Medium> Medium for FuseMedium<M> {
     ghost bounded = { λ f x told. M.bounded f.inner x told };
 }
 
-/// Returns how many calls come before the next that is due to fail, after one more call.
-///
-/// `None` means that no call is due to fail any more.
 fn count_down(to_go: Option<u64>, once: bool) -> Option<u64>
     ensures { result ≡ counted_down once to_go }
 {
@@ -266,7 +224,7 @@ fn count_down(to_go: Option<u64>, once: bool) -> Option<u64>
     }
 }
 
-/// Appends the first `left` of these bytes, or all if there are fewer. Ignores a failure.
+/// Appends the first `left` of these bytes. Ignores a failure.
 fn leave<M: Medium>(medium: &mut M, left: usize, bytes: &[u8])
     ensures { IsLeft (medium_kind M.holds M.failures M.can_fail M.spare) medium.old (take left bytes.now) medium.new }
 {
@@ -274,7 +232,7 @@ fn leave<M: Medium>(medium: &mut M, left: usize, bytes: &[u8])
     let _ = medium.append(&bytes[..count]);
 }
 
-/// Appends the first `left` bytes of frame, bytes and frame. Stops at a call that fails.
+/// Like `leave`, for frame, bytes and frame. Stops at a failure.
 fn leave_framed<M: Medium>(medium: &mut M, left: usize, frame: &[u8], bytes: &[u8])
     ensures { IsLeft (medium_kind M.holds M.failures M.can_fail M.spare) medium.old
         (take left (frame.now ++ (bytes.now ++ frame.now))) medium.new }

@@ -20,10 +20,9 @@ use rmt_wire::mtio::MTWEOF;
 use std::alloc::Global;
 use std::marker::Model;
 
-/// A reel in memory. Its view is its tape and its capacity in bytes.
+/// A reel in memory, stored as a record file. Its view is its tape and its capacity in bytes.
 ///
-/// It stores its entries as a record file. Its tape is always known. Its device never fails, so
-/// no call returns `Device`.
+/// Its tape is always known. Its device never fails, so no call returns `Device`.
 #[derive(Drop)]
 pub struct ListReel {
     reel: FileReel<MemoryMedium>,
@@ -42,7 +41,6 @@ impl Model for ListReel {
 impl ListReel {
     /// Makes an empty reel with the given capacity in bytes. Allocates nothing yet.
     pub fn new(alloc: Global, capacity: u64) -> ListReel
-        // The new reel is empty and has the given capacity. The place is at the beginning.
         ensures blank { result.tape ≡ tape [] [] }
         ensures capacity { result.capacity ≡ capacity }
     {
@@ -51,20 +49,14 @@ impl ListReel {
         }
     }
 
-    /// Returns the length of entry number `i`, counted from 0 at the beginning.
+    /// Returns the length of entry number `i`, counted from 0 at the beginning, or 0 for a mark.
     ///
-    /// A mark, and nothing else, has the length 0. Returns `None` if there are at most `i` entries.
-    /// Copies the first bytes of the record to the front of `into`, as many as fit. The rest of
-    /// `into` is unchanged.
+    /// Returns `None` if there are at most `i` entries. Copies the first bytes of a record to the
+    /// front of `into`, as many as fit. The rest of `into` is unchanged.
     pub fn entry(&self, i: usize, into: &mut [u8]) -> Option<usize>
-        // `entry` returns the length of entry number `i`. If there is no entry with this number,
-        // `entry` returns `None`. The length is 0 if and only if the entry is a mark. `entry`
-        // copies the first bytes of the entry, as many as fit, to the front of the buffer `into`.
-        // The rest of the buffer is unchanged.
         ensures told { result ≡ entry_length (entry_at i self.now.tape) }
         ensures copied { into.new ≡ with_front (entry_bytes (entry_at i self.now.tape)) into.old }
         ensures mark { (result ≡ Some 0) ↔ (entry_at i self.now.tape ≡ Some Mark) }
-        // Each record of the reel has 1 to 262,144 bytes.
         ensures records { All IsTapeEntry (entries_of self.now.tape) }
     {
         let bytes = nth_entry(self.reel.medium().bytes(), i)?;
@@ -72,10 +64,7 @@ impl ListReel {
         Some(bytes.len())
     }
 
-    /// Writes a record at the place, with a device that fails as `trouble` says.
-    ///
-    /// Fails with `Full` if there is no room, and with `OutOfMemory` if an allocation fails.
-    /// Nothing changed then. Otherwise fails with `Device` if there is a trouble.
+    /// Writes a record with a device that fails as `trouble` says.
     pub(crate) fn write_record(&mut self, bytes: &[u8], trouble: Trouble) -> Result<(), TapeFault>
         requires { IsRecord bytes.now }
         ensures step { DeviceStep self.old.capacity trouble self.old.tape (Write bytes.now) (done_answer result) self.new.tape }
@@ -89,11 +78,6 @@ impl ListReel {
         put_record(&mut self.reel, bytes, trouble)
     }
 
-    /// Writes `count` marks at the place, with a device that fails as `trouble` says.
-    ///
-    /// Fails with `Full` if there is no room, and with `OutOfMemory` if an allocation fails.
-    /// Nothing changed then. Otherwise fails with `Device` if there is a trouble. A count of 0
-    /// never fails.
     pub(crate) fn write_marks(&mut self, count: u32, trouble: Trouble) -> Result<(), TapeFault>
         ensures step { DeviceStep self.old.capacity trouble self.old.tape (WriteMarks count) (done_answer result) self.new.tape }
         ensures capacity { self.new.capacity ≡ self.old.capacity }
@@ -111,29 +95,6 @@ impl ListReel {
 }
 
 impl Reel for ListReel {
-    // write, step: A write puts one record at the place and removes all entries that were after the
-    // place. A write fails with `Full` if and only if the reel has no room for the record and one
-    // mark. Without this room, a write never fails with `OutOfMemory`.
-    //
-    // read, step, bound: If the next entry is a record, a read returns the first bytes of the
-    // record and moves past the record. If the next entry is a mark, a read returns no bytes and
-    // moves past the mark. If there is no next entry, a read returns no bytes and the place does
-    // not change.
-    //
-    // op, rewind, step: `op` writes marks for `MTWEOF`, moves to the beginning for `MTREW`, and
-    // does nothing for `MTNOP`. `rewind` moves to the beginning. `op` fails with `BadOperation` for
-    // a number that is not an operation of a reel.
-    //
-    // op, step: Spacing (`MTFSF`, `MTBSF`, `MTFSR` and `MTBSR`) moves past `count` marks or `count`
-    // records, forward or back. If spacing over records reaches a mark first, spacing stops just
-    // past the mark and fails with `EndOrMark`. If spacing reaches the end or the beginning first,
-    // spacing stops there and fails with `EndOrMark`. Spacing does not change the entries.
-    //
-    // device, failures, GROWS: A call of a reel in memory never fails with `Device`, and the reel's
-    // count of failures is always 0. A call of the reel can allocate memory.
-    //
-    // call: Each call keeps the promises that every reel keeps (`IsTapeCall`).
-
     ghost holds = { IsTape };
 
     ghost capacity = { λ r. r.capacity };
@@ -189,7 +150,6 @@ impl Reel for ListReel {
     }
 }
 
-/// Copies the first bytes to the front of `into`, as many as fit.
 fn copy_front(bytes: &[u8], into: &mut [u8])
     ensures { into.new ≡ with_front bytes.now into.old }
 {

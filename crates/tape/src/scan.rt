@@ -11,13 +11,10 @@ use crate::Entry;
 use rmt_wire::RECORD_LIMIT;
 use std::alloc::{AllocError, Global};
 
-/// Reads the entries of a record file, from the first entry to the last whole entry.
-///
-/// Ignores the bytes after that entry. Fails with `AllocError` if an allocation fails.
+/// Reads the entries of a record file. Ignores the bytes after the last whole entry. Fails with
+/// `AllocError` if an allocation fails.
 #[tactic(auto, using(crate::proofs::Scanning::shorter, crate::proofs::Scanning::read_more, crate::proofs::Scanning::read_all))]
 pub fn read_entries(alloc: Global, file: &[u8]) -> Result<Vec<Entry>, AllocError>
-    // `read_entries` returns the list of entries that the bytes of a record file encode. The
-    // private function `nth_entry` returns only the entry with a given number.
     ensures { IfOk result (λ entries. SpellsReel file.now (plain_entries entries.items)) }
 {
     let mut entries = Vec::new(alloc);
@@ -31,8 +28,6 @@ pub fn read_entries(alloc: Global, file: &[u8]) -> Result<Vec<Entry>, AllocError
 }
 
 /// Returns the bytes of entry number `i` of a record file, counted from 0. A mark has none.
-///
-/// Returns `None` if there are at most `i` entries.
 #[tactic(auto, using(crate::proofs::Scanning::nth_more, crate::proofs::Scanning::nth_some))]
 pub(crate) fn nth_entry(file: &[u8], i: usize) -> Option<&[u8]>
     ensures { MatchOption result (slice_get (entries_in file.now) i ≡ None) (λ bytes. IsNth file.now i bytes.now) }
@@ -46,7 +41,6 @@ pub(crate) fn nth_entry(file: &[u8], i: usize) -> Option<&[u8]>
     Some(bytes)
 }
 
-/// Makes an entry of these bytes: a record, or a mark if there are none.
 fn entry_of(alloc: Global, bytes: &[u8]) -> Result<Entry, AllocError>
     ensures { IfOk result (λ made. (entry : PlainEntry) → IsTapeEntry entry → bytes.now ≡ bytes_of entry → plain_of made ≡ entry) }
 {
@@ -57,9 +51,7 @@ fn entry_of(alloc: Global, bytes: &[u8]) -> Result<Entry, AllocError>
     Ok(Entry::Record(copy))
 }
 
-/// Returns the bytes of the first entry, and what follows its image.
-///
-/// Returns `None` if the bytes do not begin with the image of an entry.
+/// Returns the bytes of the first entry and what follows it, or `None` if no whole entry is there.
 #[tactic(auto, using(crate::proofs::Spelling::tail_short, crate::proofs::Scanning::first_mark))]
 fn first_entry(bytes: &[u8]) -> Option<(&[u8], &[u8])>
     ensures { MatchOption result (IsTail bytes.now) (λ p. IsFirst bytes.now p.0.now p.1.now) }
@@ -71,10 +63,6 @@ fn first_entry(bytes: &[u8]) -> Option<(&[u8], &[u8])>
     split_record(length, rest)
 }
 
-/// Returns the bytes of a record of this length, and what follows its image.
-///
-/// `rest` is what follows the first length of the image. Returns `None` if the image is not whole
-/// or the length is above `RECORD_LIMIT`.
 fn split_record(length: usize, rest: &[u8]) -> Option<(&[u8], &[u8])>
     requires some { 0 < length }
     requires small { length < 2 ^ 32 }
@@ -92,9 +80,6 @@ fn split_record(length: usize, rest: &[u8]) -> Option<(&[u8], &[u8])>
     Some((record, behind))
 }
 
-/// Returns the length that these bytes begin with, and what follows it.
-///
-/// Returns `None` if there are fewer than 4 bytes.
 #[tactic(auto, using(crate::proofs::Scanning::read_length))]
 fn split_length(bytes: &[u8]) -> Option<(usize, &[u8])>
     ensures { MatchOption result (length bytes.now < 4) (λ p. (p.0 < 2 ^ 32) × (bytes.now ≡ length_bytes p.0 ++ p.1.now)) }

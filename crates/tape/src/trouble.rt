@@ -1,4 +1,4 @@
-//! A trouble: an injected fault of the next device call.
+//! An injected fault.
 
 ghost use Rattle.std.specs.Prelude.{◌≡◌, ◌≢◌, ◌≤◌, IfSome, MatchResult};
 ghost use Rattle.tape.specs.Trouble.{IsTroubleLeft};
@@ -9,24 +9,24 @@ use crate::TapeFault;
 
 /// How the next device call of a `TroubledReel` fails.
 ///
-/// A failed call leaves the place and the entries before it unchanged. In a write, the kind of
-/// trouble determines what remains from the place on. In all other calls the kinds are alike.
+/// A failed call leaves the place and the entries before it unchanged. The kinds differ only in
+/// what a write leaves from the place on.
 #[derive(Clone, Copy, Debug, PartialEq, Eq)]
 pub enum Trouble {
     /// The call does not fail.
     None,
-    /// The call fails. A write leaves the old entries from the place on.
+    /// The call fails. A write leaves the old entries.
     Kept,
-    /// The call fails. A write leaves nothing from the place on.
+    /// The call fails. A write leaves nothing.
     Lost,
     /// The call fails. A write leaves this many of its entries, or all if it has fewer.
     ///
-    /// With 1 or more a record remains whole. With 0 it is like `Lost`.
+    /// A record remains whole if this is at least 1.
     Written(u32),
 }
 
 impl Trouble {
-    /// Returns how many of `count` written entries remain. Returns `None` if the old ones remain.
+    /// Returns how many of `count` written entries remain, or `None` if the old ones remain.
     pub(crate) fn left(self, count: u32) -> Option<u32>
         ensures within { IfSome result (λ n. n ≤ count) }
         ensures left { IsTroubleLeft self count result }
@@ -39,7 +39,6 @@ impl Trouble {
         }
     }
 
-    /// Returns the result of a device call with this trouble: `Device`, but `Ok` for `None`.
     pub(crate) fn answer(self) -> Result<(), TapeFault>
         ensures { MatchResult result (λ _. self ≡ None) (λ fault. (fault ≡ Device) × (self ≢ None)) }
     {

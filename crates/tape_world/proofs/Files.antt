@@ -4,7 +4,7 @@ use Rattle.std.specs.Prelude.{IfSome}
 use Rattle.sha2.specs.Sha256.{sha256}
 use Rattle.dump_run.specs.Run.{PlainRun}
 use Rattle.dump_run.specs.declared.count.VolumeCount.{VolumeCount}
-use Rattle.volume_sum.specs.Volume.{volume_sum}
+use Rattle.volume_check.specs.Volume.{volume_sum}
 use Rattle.world_model.specs.World.{World}
 use Rattle.world_model.specs.Sums.{CountedSums}
 use Rattle.tape_world.specs.Files.{IsSumOfFiles}

@@ -22,9 +22,9 @@ pub use Rattle.std.proofs.lemmas.Simd.{map-map}
 pub use Rattle.std.specs.List.{position_or_len}
 pub use Rattle.std.specs.Option.{option_or}
 pub use Rattle.tape.specs.Trouble.{TroubledTape}
-pub use Rattle.tape_host.specs.Servers.{HasRoom, Hosted, IsPiecePushed, hosted, side_at}
-pub use Rattle.tape_host.specs.Turns.{Carries, GivesFault, GivesNothing, ServesAt, TurnsSide, asked_of, carried_of, with_back}
-pub use Rattle.tape_host.specs.declared.turn.Turn.{Turn}
+pub use Rattle.world_host.specs.Servers.{HasRoom, Hosted, IsPiecePushed, hosted, side_at}
+pub use Rattle.world_host.specs.Turns.{Carries, GivesFault, GivesNothing, ServesAt, TurnsSide, asked_of, carried_of, with_back}
+pub use Rattle.world_host.specs.declared.turn.Turn.{Turn}
 pub use Rattle.tape_world.specs.Calling.{ClientAnswers, ClientSeesEnd as SeesItsEnd, IsBegunWith, IsReady, IsSameRun, Starts}
 pub use Rattle.tape_world.specs.Entries.{AreOpenThere, entries_on, first_tape_online, named_tape_in, tape_online}
 pub use Rattle.tape_world.specs.Hearing.{HasHeard, IsAttempting, heard_on, history_count, is_over, own_after}
@@ -42,8 +42,8 @@ pub use Rattle.tape_world.specs.declared.caller.WorldClient.{WorldClient as Real
 pub use Rattle.tape_world.specs.declared.drive_spec.DriveSpec.{DriveSpec}
 pub use Rattle.tape_world.specs.declared.history.Entered.{Entered as RealEntered}
 pub use Rattle.tape_world.specs.declared.stop.EventStop.{EventStop}
-pub use Rattle.world_connections.proofs.Linked.{put_connection, put_same}
-pub use Rattle.world_connections.specs.Connection.{noted_turn, plain_connection}
+pub use Rattle.world_host.proofs.Linked.{put_connection, put_same}
+pub use Rattle.world_host.specs.Connection.{noted_turn, plain_connection}
 pub use Rattle.world_model.proofs.Basics.{Bool, Contains, Contains-append_left, Contains-push, Err, IsTrue, List, None, Ok, Option, Result, Some, [], ap, append-nil, append_assoc, arith, bytes_eq, bytes_eq-Decides, cond, decimal, drop, false, flat_map, get_or, get_or-set_same, get_or_from_slice_get, inl, inr, length, length-append, length-decimal-le, length-drop, length-map, length-set, list_any, map, map-append, nat_tests, not, option_and_then, option_map, option_to_list, refl, replicate, same_Some, set-get_or, set-set, slice_get, slice_get-get_or, slice_get_within, slice_index_or, slice_set}
 pub use Rattle.world_model.proofs.Basics.{subst, suc, sum_by, sum_by-append, sum_by-cons, sym, take, take-append-drop, take_all, true, zero, ℕ, ◌&&◌, ◌++◌, ◌+◌, ◌-◌, ◌<◌, ◌==◌, ◌||◌, ◌↔◌, ◌∙◌, ◌∷◌, ◌≡◌, ◌≢◌, ◌≤◌, ◌⊎◌}
 pub use Rattle.world_model.proofs.Ground.{among_at, drop_front, numbered_last, pushed_is}

@@ -1,7 +1,7 @@
 -- How a new world's stacks are laid.
 use Rattle.tape_world.proofs.Layers.{common_steps, true, false, Option, refl, subst, ◌≡◌, ℕ, ◌+◌, ◌<◌, List, [], ◌∷◌, ◌++◌, length, drop, map, get_or, replicate, Some, OnOk, sym, ap, ◌∙◌, append_assoc, arith, is_err, Contains, Any-from_list_any, flat_map-map, list_any, flat_map, flat_map-cons, bytes_eq-Decides, length-set, get_or-set_same, set-set, append-nil, length-map, map-append, on_ok_weaker, bytes_eq, DriveFault, TroubledTape, KeptReel, kept_reel, ReelSlot, slot, Drive, drive_with, LibraryOf, TapeLibrary, library, drive_at, times, names_in, ListLibrary, library_of, blank_reel, rest_slot}
 use Rattle.tape_world.proofs.Layers.{rest_drive, with_drive, with_reel, IsDriveAdded, IsReelAdded, names_from, any_count, server, Hosted, hosted, PlainDriveSpec, blank_drive, first_world, DriveSpec, IsLibraryKnown, plain_drive_spec, reels_of, blank_slots, laid_drive, laid_library, with_laid, with_slots, Result, Ok, map-map, set_at}
-use Rattle.tape_host.specs.Lying.{AreInSlots, AreStacksInSlots, AreAllInSlots}
+use Rattle.world_host.specs.Lying.{AreInSlots, AreStacksInSlots, AreAllInSlots}
 
 one_slot : (s : LibraryOf TroubledTape) (d : ℕ) (name : List ℕ) (capacity : ℕ) (slots : List (ReelSlot TroubledTape)) → d < length s.drives
     → with_slots (with_reel s d name capacity) d slots ≡ with_slots s d (slot name (Some (blank_reel capacity)) ∷ slots)

@@ -1,6 +1,6 @@
 -- Connections in memory, at their indexes from 0, and as they are seen, by their numbers from 1.
 use Rattle.tape_world.proofs.Layers.{common_steps, sym, ◌≡◌, ℕ, ◌-◌, List, map, Some, ap, ◌∙◌, arith, slice_get, slice_index_or, length-map, set-set, slice_get-map, Connection, numbered, changed, without_peer, plain_connection, put_connection, put_same, slice_set, get_or_from_slice_get, set-get_or}
-use Rattle.world_connections.specs.declared.connection.Connection.{Connection as RealConnection}
+use Rattle.world_host.specs.declared.connection.Connection.{Connection as RealConnection}
 use Rattle.tape_world.specs.Connections.{IsThere}
 use Rattle.world_model.proofs.Numbers.{set_here}
 

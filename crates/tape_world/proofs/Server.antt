@@ -1,6 +1,6 @@
 -- Sides by their numbers, and their ends, as the host tells of them and as the world does.
 use Rattle.tape_world.proofs.Layers.{common_steps, arith, ◌≡◌, ℕ, zero, suc, List, [], ◌∷◌, Option, None, refl, ap, ◌∙◌, slice_get, slice_index_or, option_and_then, ServerState, side_at, side_of, ended_from, ended, all_ended}
-use Rattle.tape_host.specs.Servers as host
+use Rattle.world_host.specs.Servers as host
 
 pub at_place : {S : Type 0} (xs : List (Option S)) (i : ℕ) → slice_index_or xs i None ≡ option_and_then (λ s. s) (slice_get xs i)
 at_place [] i = refl

@@ -1,7 +1,7 @@
 -- What a turn of the server's side makes of a connection.
 use Rattle.tape_world.proofs.Layers.{common_steps, ◌≡◌, ℕ, suc, Bool, not, List, [], ◌∷◌, ◌++◌, map, Option, Some, refl, ap, ◌∙◌, arith, Vec, Global, Contains, position_or_len, option_to_list, map-append, bytes_eq, bytes_eq-Decides, Trouble, ServerConnection, Turn, Hosted, hosted, side_at, TurnsSide, ServesAt, with_back, Connection, without_server, name_at, noted_turn, TurnServes, option_map, cond, ◌+◌}
-use Rattle.tape_host.specs.Servers.{ended}
-use Rattle.tape_host.specs.declared.turn.Turn.TheVariants as turns
+use Rattle.world_host.specs.Servers.{ended}
+use Rattle.world_host.specs.declared.turn.Turn.TheVariants as turns
 
 -- ---- the connection after a turn
 

@@ -1,11 +1,11 @@
 -- What a turn of the server's side makes of the world.
 use Rattle.tape_world.proofs.Layers.{common_steps, arith, ◌≡◌, ◌≢◌, ℕ, List, ◌++◌, length, option_map, Some, None, refl, sym, ap, subst, ◌∙◌, Ok, Err, Contains, option_to_list, append-nil, take-append-drop, PlainRequest, PlainReply, Trouble, SessionView, session_view, TroubledServeStep, drive_in, ServerState, server, ServerConnection, side, Turn, Hosted, side_at, Carries, GivesNothing, GivesFault, asked_of, carried_of, VolumeCount, World, Connection, Opening, numbered, with_numbered, Serve, with_no_failure, changed, opened_reel, opening, list_in, writing, answered, without_server, Possible, Happens}
 use Rattle.tape_world.proofs.Layers.{AreHeld, IsWorldKept, HistoryHeld, TurnServes, IsNoted, IsLibraryKnown, IsOnlineIn, name_opened_by, opened_in, written_in, reel_written, name_written_by, take, drop, Contains-push, Contains-append_left, WireFault, IsSameHistory, among_at, carried, ended_at}
-use Rattle.tape_host.specs.declared.turn.Carried.{Carried}
+use Rattle.world_host.specs.declared.turn.Carried.{Carried}
 use Rattle.tape_world.proofs.Server.{side_found, ended_is}
 use Rattle.tape_world.proofs.Online.{held_there}
-use Rattle.tape_host.specs.declared.turn.Turn.TheVariants as turns
-use Rattle.tape_host.specs.Servers as host
+use Rattle.world_host.specs.declared.turn.Turn.TheVariants as turns
+use Rattle.world_host.specs.Servers as host
 
 -- ---- nothing to serve
 

@@ -1,7 +1,7 @@
 -- What a run that is begun, and an attempt that starts, leave of a world.
 use Rattle.tape_world.proofs.Layers.{common_steps, ◌≡◌, false, List, [], ◌∷◌, ◌++◌, length, Option, Some, None, ◌+◌, ℕ, arith, Result, Ok, Err, PlainRun, cut_blocks, listed, standing, checkpoint_of, StartedAt, HasFedAt, Open, ToSend, AttemptState, fresh, RealBegun, RealCaller, seen_begun, seen_caller, IsBegunWith, IsSameRun, IsReady, Starts, IsSourced, EventStop, is_err, reply_held, numbered_last}
 use Rattle.dump_client.specs.declared.fault.StartFault.{StartFault}
-use Rattle.world_connections.specs.Attempt.{new_dumping}
+use Rattle.world_host.specs.Attempt.{new_dumping}
 use Rattle.tape_world.proofs.Clients.{sourced_same}
 
 pub begun_is : (run : PlainRun) (payload : List ℕ) (b : RealBegun) → IsBegunWith run payload b

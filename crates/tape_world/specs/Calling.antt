@@ -14,7 +14,7 @@ use Rattle.dump_client.specs.declared.fault.StartFault.{StartFault}
 use Rattle.world_model.specs.World.{Connection, AttemptState}
 use Rattle.world_model.specs.Changes.{changed, without_peer}
 use Rattle.rmt_wire.specs.ReplyReader.{reply_held}
-use Rattle.world_connections.specs.Attempt.{new_dumping}
+use Rattle.world_host.specs.Attempt.{new_dumping}
 use Rattle.tape_world.specs.declared.stop.EventStop.{EventStop}
 use Rattle.tape_world.specs.declared.stop.EventStop.TheVariants.{OutOfMemory}
 use Rattle.tape_world.specs.declared.caller.Begun.{Begun}

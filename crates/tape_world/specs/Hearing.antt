@@ -8,7 +8,7 @@ use Rattle.dump_client.specs.declared.stage.Progress.{Progress}
 use Rattle.dump_client.specs.declared.stage.Progress.TheVariants.{Failed, Ended}
 use Rattle.world_model.specs.World.{Connection, Count}
 use Rattle.world_model.specs.Changes.{without_peer}
-use Rattle.world_connections.specs.Connection.{deliver_back}
+use Rattle.world_host.specs.Connection.{deliver_back}
 use Rattle.tape_world.specs.Holding.{is_in_attempt}
 use Rattle.tape_world.specs.Calling.{IsSameRun, failure_of}
 use Rattle.tape_world.specs.declared.caller.WorldClient.{WorldClient}

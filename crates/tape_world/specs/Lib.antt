@@ -1,4 +1,4 @@
--- In reading order: Making, Running, Telling, Entries, Volumes, Files; Connections, Seen, Parts, Holding, Linking,
+-- In reading order: Making, Running, Telling, Entries, Volumes, Files; Connections, Seen, Holding,
 -- Calling, Talking, Hearing, Saving, Serving.
 pub mod Connections
 pub mod Seen

@@ -12,15 +12,15 @@ use Rattle.rmt_server.specs.Session.PlainSession.{Online}
 use Rattle.rmt_server.specs.declared.access.Access.{Access}
 use Rattle.rmt_server.specs.ServerState.{ServerState, ServerConnection}
 use Rattle.dump_run.specs.declared.count.VolumeCount.{VolumeCount}
-use Rattle.tape_host.specs.declared.turn.RequestKind.{RequestKind}
-use Rattle.tape_host.specs.declared.turn.RequestKind.TheVariants as asked
-use Rattle.tape_host.specs.declared.turn.Answered.{Answered}
-use Rattle.tape_host.specs.declared.turn.Answered.TheVariants as said
-use Rattle.tape_host.specs.declared.turn.Carried.{Carried}
-use Rattle.tape_host.specs.declared.turn.Turn.{Turn}
-use Rattle.tape_host.specs.declared.turn.Turn.TheVariants as turns
-use Rattle.tape_host.specs.Servers.{Hosted, hosted, side_at, ended}
-use Rattle.tape_host.specs.Turns.{carried_of, Carries, GivesNothing, GivesFault}
+use Rattle.world_host.specs.declared.turn.RequestKind.{RequestKind}
+use Rattle.world_host.specs.declared.turn.RequestKind.TheVariants as asked
+use Rattle.world_host.specs.declared.turn.Answered.{Answered}
+use Rattle.world_host.specs.declared.turn.Answered.TheVariants as said
+use Rattle.world_host.specs.declared.turn.Carried.{Carried}
+use Rattle.world_host.specs.declared.turn.Turn.{Turn}
+use Rattle.world_host.specs.declared.turn.Turn.TheVariants as turns
+use Rattle.world_host.specs.Servers.{Hosted, hosted, side_at, ended}
+use Rattle.world_host.specs.Turns.{carried_of, Carries, GivesNothing, GivesFault}
 use Rattle.world_model.specs.World.{Connection}
 use Rattle.world_model.specs.Standing.{HasReel}
 use Rattle.world_model.specs.Changes.{answered, opening, without_server, first_name, writing}

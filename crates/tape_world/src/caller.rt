@@ -1,11 +1,7 @@
 //! The client of a world, the runs that were begun, and the run that is saved outside the client.
-//!
-//! A count is the record of a volume that was written whole: its number, its first block and its
-//! number of blocks.
 
 use dump_client::{Client, ListBlocks, Run, VolumeCount};
 
-/// A run that was begun, and its payload.
 #[derive(Drop)]
 pub(crate) struct Begun {
     pub(crate) run: Run,
@@ -22,7 +18,6 @@ pub(crate) struct WorldClient {
 /// A run that is saved outside the client, as in a checkpoint file.
 #[derive(Drop)]
 pub(crate) struct KeptRun {
-    /// The number of the run.
     pub(crate) run: usize,
     /// The counts that the client had then.
     pub(crate) counts: Vec<VolumeCount>,

@@ -1,15 +1,14 @@
-//! All connections that were ever made, by their numbers, which are counted from 1.
+//! All connections that were ever made, by number. The first has number 1.
 ghost use Rattle.std.specs.Prelude.{◌≡◌, ◌≤◌, ◌∷◌, ◌++◌, [], true, None, Some, IfOk, OnOk, OnErr, MatchOption, length, map};
 ghost use Rattle.world_model.specs.World.{numbered};
 ghost use Rattle.world_model.specs.Changes.{changed, without_server, without_peer};
-ghost use Rattle.world_connections.specs.Connection.{plain_connection, severed, said, arrived, deliver_back};
+ghost use Rattle.world_host.specs.Connection.{plain_connection, severed, said, arrived, deliver_back};
 ghost use Rattle.tape_world.specs.Connections.{IsThere};
 
 use std::alloc::{AllocError, Global};
 use std::marker::Model;
-use world_connections::Connection;
+use world_host::Connection;
 
-/// All connections that were ever made. The first has number 1.
 #[derive(Drop)]
 pub(crate) struct Connections {
     pub(crate) items: Vec<Connection>,
@@ -17,7 +16,7 @@ pub(crate) struct Connections {
 
 impl Model for Connections {
     ghost use Rattle.std.specs.Prelude.{map, nat_lt, vec_len, vec_capacity};
-    ghost use Rattle.world_connections.specs.Connection.{plain_connection};
+    ghost use Rattle.world_host.specs.Connection.{plain_connection};
     ghost use Rattle.tape_world.specs.Connections.{ConnectionsHeld};
 
     ghost Value = { ConnectionsHeld };
@@ -26,7 +25,6 @@ impl Model for Connections {
 }
 
 impl Connections {
-    /// Makes an empty list of connections.
     pub(crate) fn new(alloc: Global) -> Connections
         ensures { result.list ≡ [] }
     {
@@ -58,69 +56,64 @@ impl Connections {
         self.items.push_reserved(connection);
     }
 
-    /// Returns the connection with this number, if there is one.
     pub(crate) fn find(&self, number: usize) -> Option<&Connection>
         ensures { MatchOption result (numbered self.now.list number ≡ None) (λ l. numbered self.now.list number ≡ Some (plain_connection l.now)) }
     {
-        world_connections::find(&self.items, number)
+        world_host::find(&self.items, number)
     }
 
-    /// Cuts the connection with this number, which must exist.
     pub(crate) fn cut(&mut self, number: usize)
         requires { IsThere self.old.list number }
         ensures { self.new.list ≡ changed severed self.old.list number }
     {
-        world_connections::cut(&mut self.items, number);
+        world_host::cut(&mut self.items, number);
     }
 
-    /// Ends the server's side of the connection with this number, which must exist.
+    /// Ends the server's side of a connection.
     pub(crate) fn end_here(&mut self, number: usize)
         requires { IsThere self.old.list number }
         ensures { self.new.list ≡ changed without_server self.old.list number }
     {
-        world_connections::end_here(&mut self.items, number);
+        world_host::end_here(&mut self.items, number);
     }
 
-    /// Removes the peer from the connection with this number, which must exist.
+    /// Removes the peer from a connection.
     pub(crate) fn end_there(&mut self, number: usize)
         requires { IsThere self.old.list number }
         ensures { self.new.list ≡ changed without_peer self.old.list number }
     {
-        world_connections::end_there(&mut self.items, number);
+        world_host::end_there(&mut self.items, number);
     }
 
     /// Ends the server's sides of all connections.
     pub(crate) fn end_all_here(&mut self)
         ensures { self.new.list ≡ map without_server self.old.list }
     {
-        world_connections::end_all_here(&mut self.items);
+        world_host::end_all_here(&mut self.items);
     }
 
-    /// Sends bytes to the server on the connection with this number, which must exist. Fails if an
-    /// allocation fails. Nothing has changed then.
+    /// Sends bytes to the server. If an allocation fails, nothing has changed.
     pub(crate) fn send(&mut self, number: usize, bytes: &[u8]) -> Result<(), AllocError>
         requires { IsThere self.old.list number }
         ensures sent { OnOk result (self.new.list ≡ changed (said bytes.now) self.old.list number) }
         ensures refused { OnErr result (self.new.list ≡ self.old.list) }
     {
-        world_connections::send(&mut self.items, number, bytes)
+        world_host::send(&mut self.items, number, bytes)
     }
 
-    /// Removes the first `count` bytes in transit to the server. The connection with this number
-    /// must exist.
+    /// Removes the first `count` bytes in transit to the server.
     pub(crate) fn arrive(&mut self, number: usize, count: usize)
         requires { IsThere self.old.list number }
         ensures { self.new.list ≡ changed (arrived count) self.old.list number }
     {
-        world_connections::arrive(&mut self.items, number, count);
+        world_host::arrive(&mut self.items, number, count);
     }
 
-    /// Removes the first `count` bytes in transit to the peer. The connection with this number must
-    /// exist.
+    /// Removes the first `count` bytes in transit to the peer.
     pub(crate) fn deliver_back(&mut self, number: usize, count: usize)
         requires { IsThere self.old.list number }
         ensures { self.new.list ≡ changed (deliver_back count) self.old.list number }
     {
-        world_connections::deliver_back(&mut self.items, number, count);
+        world_host::deliver_back(&mut self.items, number, count);
     }
 }

@@ -44,7 +44,6 @@ impl<'a> Model for Counts<'a> {
 impl<'a> Counts<'a> {
     /// Returns how many counted volumes there are.
     pub fn len(&self) -> usize
-        // Returns the number of counted volumes.
         ensures { result ≡ length self.now }
     {
         self.counts.len()
@@ -52,16 +51,13 @@ impl<'a> Counts<'a> {
 
     /// Returns whether the list of counted volumes is empty.
     pub fn is_empty(&self) -> bool
-        // Returns true if and only if there are no counted volumes.
         ensures { (result ≡ true) ↔ (self.now ≡ []) }
     {
         self.counts.is_empty()
     }
 
-    /// Returns the counted volume at index `i`, or None if `i` is past the last volume. The first
-    /// volume has index 0.
+    /// Returns the counted volume at index `i`, from 0, or `None` past the last.
     pub fn get(&self, i: usize) -> Option<CountedVolume<'a>>
-        // Returns the counted volume at the given index.
         ensures { option_map plain_count result ≡ slice_get self.now i }
     {
         let count = self.counts.get(i)?;

@@ -20,12 +20,10 @@ pub struct DriveSpec<'a> {
 }
 
 /// Returns whether a world can be made with the given drives. There must be 1 to
-/// `drives::DRIVE_LIMIT`, no two with the same name. No two of all their reels can have the same
+/// `drives::DRIVE_LIMIT` (64). No two drives, and no two of all their reels, can have the same
 /// name.
 #[tactic(auto, using(std::proofs::lemmas::Grind::common_steps, crate::proofs::Apart::are_good, crate::proofs::Apart::names_alike))]
 pub fn good_drives(drives: &[DriveSpec<'_>]) -> bool
-    // Returns true if and only if a world can be made with the given drives. There must be 1 to 64
-    // drives. No two drives can have the same name, and no two reels can have the same name.
     ensures { (result ≡ true) ↔ AreGoodDrives (map plain_drive_spec drives.now) }
 {
     if drives.is_empty() || DRIVE_LIMIT < drives.len() {
@@ -34,7 +32,6 @@ pub fn good_drives(drives: &[DriveSpec<'_>]) -> bool
     names_differ(drives) && reels_differ(drives)
 }
 
-/// Whether no two drives have the same name.
 #[tactic(auto, using(drives::proofs::Arranging::differ_yet))]
 fn names_differ(drives: &[DriveSpec<'_>]) -> bool
     ensures { result ≡ are_distinct (map (λ d. d.name.now) drives.now) }
@@ -57,7 +54,6 @@ fn is_name_again(drives: &[DriveSpec<'_>]) -> bool
     any_named(others, first.name)
 }
 
-/// Whether one of the drives has that name.
 fn any_named(drives: &[DriveSpec<'_>], name: &[u8]) -> bool
     ensures { result ≡ list_any (λ d. bytes_eq name.now d.name.now) drives.now }
 {
@@ -69,7 +65,6 @@ fn any_named(drives: &[DriveSpec<'_>], name: &[u8]) -> bool
     false
 }
 
-/// Whether no two reels of all the drives have the same name.
 #[tactic(auto, using(crate::proofs::Apart::reels_no, crate::proofs::Apart::reels_yet))]
 fn reels_differ(drives: &[DriveSpec<'_>]) -> bool
     ensures { result ≡ are_distinct (flat_map reels_of drives.now) }
@@ -92,7 +87,6 @@ fn is_reel_again(drives: &[DriveSpec<'_>]) -> bool
     !all_differ(first.reels) || any_shared(first.reels, others)
 }
 
-/// Whether no two of the names are the same.
 #[tactic(auto, using(drives::proofs::Arranging::differ_yet))]
 fn all_differ(names: &[&[u8]]) -> bool
     ensures { result ≡ are_distinct (map (λ n. n.now) names.now) }
@@ -115,7 +109,6 @@ fn occurs_again(names: &[&[u8]]) -> bool
     any_is(others, name)
 }
 
-/// Whether the name is among the names.
 fn any_is(names: &[&[u8]], name: &[u8]) -> bool
     ensures { result ≡ list_any (λ n. bytes_eq name.now n.now) names.now }
 {

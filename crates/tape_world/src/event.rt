@@ -3,8 +3,7 @@
 use dump_client::{Answer, Run};
 use tape::Trouble;
 
-/// An event between a client and a server. If it can't happen, the function `run` of this crate
-/// returns `NotPossible`.
+/// An event between a client and a server. If it is not possible, `run` returns `NotPossible`.
 ///
 /// Connections are identified by number, from 1, in the order in which they were made. The peer of
 /// a connection is the client or a stranger.

@@ -1,6 +1,4 @@
 //! The history of a world: what is recorded of everything that happened.
-//!
-//! A count is the record of a volume that the client wrote whole to a reel.
 ghost use Rattle.std.specs.Prelude.{◌≡◌, ◌∷◌, ◌++◌, [], true, IfOk};
 ghost use Rattle.tape_world.specs.Seen.{IsSameHistory, seen_entered};
 
@@ -8,8 +6,7 @@ use dump_client::VolumeCount;
 use std::alloc::AllocError;
 use std::marker::Model;
 
-/// A volume that was counted, of the run with this number, written on this connection. `reel` is
-/// the index of the reel's name among all names.
+/// A volume that was counted. `reel` is the index of the reel's name in `History::names`.
 #[derive(Clone, Copy)]
 pub(crate) struct Count {
     pub(crate) run: usize,
@@ -20,8 +17,7 @@ pub(crate) struct Count {
     pub(crate) connection: usize,
 }
 
-/// An open for writing that was accepted, on this connection. `reel` is the index of the reel's
-/// name.
+/// An open for writing that was accepted.
 #[derive(Clone, Copy)]
 pub(crate) struct Opening {
     pub(crate) connection: usize,
@@ -40,14 +36,13 @@ pub(crate) struct Writing {
 /// A run that was entered in dumpdates.
 #[derive(Drop)]
 pub(crate) struct Entered {
-    /// The number of the run.
     pub(crate) run: usize,
     /// The counts that the client had then.
     pub(crate) counts: Vec<VolumeCount>,
 }
 
-/// The record of everything that happened, in order of time. Contracts see it as plain data, with
-/// the name of each reel in place of the name's index.
+/// Everything that happened, in order of time. Contracts see each reel's name in place of its
+/// index.
 #[derive(Drop)]
 pub(crate) struct History {
     /// The names of all reels.
@@ -85,7 +80,6 @@ impl Model for History {
 }
 
 impl History {
-    /// Reserves room for one more count. Fails only if an allocation fails.
     pub(crate) fn reserve_count(&mut self) -> Result<(), AllocError>
         ensures room { IfOk result (λ done. self.new.rooms.counts ≡ true) }
         ensures same { IsSameHistory self.old self.new }
@@ -93,7 +87,6 @@ impl History {
         self.counts.reserve(1)
     }
 
-    /// Reserves room for one more run that is entered. Fails only if an allocation fails.
     pub(crate) fn reserve_entered(&mut self) -> Result<(), AllocError>
         ensures room { IfOk result (λ done. self.new.rooms.entered ≡ true) }
         ensures same { IsSameHistory self.old self.new }

@@ -8,23 +8,22 @@
 //!
 //! # Contracts
 //!
-//! `WorldState` contains a server, a client, and the bytes in transit between them. The server is a
-//! `Host` of the crate `tape_host`, and the client is a `Client` of the crate `dump_client`.
-//! `WorldState` has one method for each of the seventeen kinds of events. The contract of each
-//! method is the clause `IsEvent`, which allows two outcomes. In the first outcome, the event is
-//! possible, and the method changes the world as the crate `world_model` defines. In the second
-//! outcome, the world stays as it was, because the event is not possible or because an allocation
-//! failed.
+//! The private type `WorldState` contains a server, a client, and the bytes in transit between
+//! them. The server is a `Host` of the crate `world_host`, and the client is a `Client` of the
+//! crate `dump_client`. `WorldState` has one method for each of the seventeen kinds of events, and
+//! `run` calls one of them for each event. The contract of each method is the clause `IsEvent`,
+//! which allows two outcomes. In the first, the event is possible, and the method changes the world
+//! as the crate `world_model` defines. In the second, the world stays as it was, because the event
+//! is not possible or because an allocation failed.
 //!
-//! `WorldState` also has an invariant with three parts. First, the client reads the payload of its
-//! run from a source that has no injected fault. Second, if a run is saved outside the client,
+//! The invariant of `WorldState` has three parts. First, the client reads the payload of its run
+//! from a source that has no injected fault. Second, if a run is saved outside the client,
 //! `WorldState` also contains the run's checkpoint text, with the saved list of counts. Third, each
-//! reel has one of the names that were given at the start. Some methods also require that the world
-//! satisfies `IsWorldKept`, the invariant of the crate `world_model`. `World::make` calls these
-//! methods, and it is proved that the world satisfies `IsWorldKept` before each call. `WorldState`
-//! is private to the crate. This page lists the methods of `WorldState` because `run` calls one of
-//! them for each event. The section `world_model` explains *count*, *the count's own session*, *the
-//! client's list*, *foreign* and *reopens*.
+//! reel has one of the names that were given at the start. Some methods also require `IsWorldKept`,
+//! the invariant of the crate `world_model`. It is proved of the world before each call.
+//!
+//! The crate `world_model` explains *count*, *the count's own session*, *the client's list*,
+//! *foreign* and *reopens*.
 #![tactic(auto)]
 
 mod caller;

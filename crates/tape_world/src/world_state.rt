@@ -19,7 +19,7 @@ use dump_client::AttemptFault;
 use dumpdates::Dates;
 use std::alloc::Global;
 use std::marker::Model;
-use tape_host::Host;
+use world_host::Host;
 
 /// A server with its drives, all connections that were ever made, and a client: the state that
 /// events change.

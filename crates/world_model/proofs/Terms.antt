@@ -65,7 +65,7 @@ pub use Rattle.tape.specs.Trouble.{DeviceStep, ComesToDevice, IsUntroubled, left
 pub use Rattle.tape.specs.declared.fault.TapeFault.{TapeFault}
 pub use Rattle.tape.specs.declared.trouble.Trouble.{Trouble}
 pub use Rattle.tape.specs.declared.trouble.Trouble.TheVariants.{None as NoTrouble}
-pub use Rattle.volume_sum.specs.Volume.{file_sum}
+pub use Rattle.volume_check.specs.Volume.{file_sum}
 pub use Rattle.world_model.specs.Attempts.{AreLabelled, EachCountHasAttempt, IsEarnedBy, IsSingle, AreSingle, IsReelWritten, IsLabelled}
 pub use Rattle.world_model.specs.Changes.{with_no_failure, counts_of, opening, side_of, connection_of, reel_opened_by, changed, changed_from, sent_on, answered, noted, new_connection, noted_sent, without_peer, opened_reel, written_reel, first_name, with_side, ended_from, ended, all_ended, without_server, writing, noted_by, given_up, joined, restarted, ended_at, after_client_call, HasDump, list_in, reel_written, noted_error, accepted}
 pub use Rattle.world_model.specs.Events.{PlainEvent}

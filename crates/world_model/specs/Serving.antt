@@ -71,8 +71,9 @@ abbrev pub undone_holders : PlainRequest → PlainSession → List ℕ → List 
 undone_holders (Open device mode) session holders = with_holder (drive_in session) 0 holders
 undone_holders request session holders = holders
 
--- The reply refuses the request. A refusal of an open is any error. A refusal of another request is
--- the error of the first check that fails, not an error of the open reel or of its move.
+-- The reply refuses the request. A refusal of an open is any error, as for a bad mode, an unknown
+-- drive, one that another session has open, no reel, or a failed device. A refusal of another
+-- request is the error of the first check that fails, not an error of the open reel or of its move.
 abbrev pub Refuses : PlainSession → PlainRequest → PlainReply → Type 0
 Refuses session (Open device mode) reply = (n : ℕ) × (text : List ℕ) × (reply ≡ Error n text)
 Refuses session request reply = MatchOption (check (status_of session) request) ⊥ (λ why. reply ≡ refused why)
@@ -95,7 +96,8 @@ pub record ChangesAt (d : ℕ) (s t : TapeLibrary) : Type 0 where
 -- A request of session `k` meets one of these:
 -- - `refusal`: it is refused.
 -- - `own`: it is no open and no check refuses it. It meets the drive `d` that the session has open
---   and still holds. Afterwards the session has no other drive open.
+--   and still holds. Afterwards the session has no other drive open. If the reel or its move to the
+--   bin fails, the reel or its position can have changed before the error reply.
 -- - `free`: it is an open that succeeds at drive `d`, which nobody holds once what the session had
 --   open is closed.
 --

@@ -1,7 +1,7 @@
 -- The sums of counted reels. Public contracts cite it.
 use Rattle.std.specs.Prelude.{◌≡◌, List, Contains, Some}
 use Rattle.tape.specs.Tape.{PlainEntry}
-use Rattle.volume_sum.specs.Volume.{file_sum, volume_sum}
+use Rattle.volume_check.specs.Volume.{file_sum, volume_sum}
 use Rattle.world_model.specs.World.{World, Begun, Count, numbered}
 use Rattle.world_model.specs.Standing.{ReelHolds}
 use Rattle.world_model.specs.Headline.{IsNotReopened}

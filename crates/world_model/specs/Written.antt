@@ -10,7 +10,7 @@ use Rattle.dump_client.specs.declared.step.TapeOp.TheVariants.{Unload}
 use Rattle.world_model.specs.World.{World, AttemptState, Writing, numbered}
 use Rattle.world_model.specs.Changes.{opening}
 -- A volume on a reel: its blocks, and the whole volume.
-pub use Rattle.volume_sum.specs.Volume.{block_records, whole_volume}
+pub use Rattle.volume_check.specs.Volume.{block_records, whole_volume}
 
 -- the label's record, if the flag is set
 abbrev pub label_if : Bool → PlainRun → ℕ → ℕ → List PlainEntry

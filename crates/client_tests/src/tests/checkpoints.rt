@@ -6,17 +6,16 @@ use super::fake::{FakePeer, Replies};
 use super::fixture::{PayloadDumper, TWO_BYTES, client, line, payload};
 use super::lines::{EMPTY, FULL, LAST};
 use super::store::Kept;
+use console::ExitStatus;
 use dump_client::{Blocks, Client};
+use dump_files::{KeepFault, ResumedDumpFault, keep_checkpoint, resume_dump, run_of};
 use dump_run::{Checkpoint, VolumeCount, push_checkpoint};
-use exit_status::ExitStatus;
-use rdump_files::{
-    KeepFault, ReplacedFile, ResumedDumpFault, WholeFile, keep_checkpoint, resume_dump, run_of,
-};
 use rdump_net::{Conclusion, DumpObserver, Peer, Reply, dump_to_end};
 use rmt_wire::Counted;
 use std::alloc::Global;
 use std::fs;
 use std::test::Fail;
+use whole_files::{ReplacedFile, WholeFile};
 
 /// An observer in memory. It keeps `most` checkpoints: it has the text of the last, and their
 /// number. It has the volumes that it was told of, and a letter for each call after the dump: `c` for
@@ -49,7 +48,7 @@ impl Watch {
 }
 
 impl<B: Blocks, P: Peer> DumpObserver<B, P> for Watch {
-    ghost logs = { λ _ _. ⊥ };
+    ghost logs = { λ _ _ _. ⊥ };
 
     ghost can_stop = { λ _. Unit {0} };
 
@@ -327,13 +326,12 @@ fn clients_that_come_back(rt: HostRuntime) {
 
 /// Whether a file that `one` holds is not read or replaced by `other`.
 fn is_held_by(alloc: Global, one: &mut impl WholeFile, other: &mut impl WholeFile) -> bool {
-    let are_empty = one.read(alloc).is_ok() && other.read(alloc).is_ok();
+    let is_locked = one.read(alloc) == Ok(None) && other.read(alloc).is_err();
     let is_kept = one.replace(NONE).is_ok() && one.replace(ONE).is_ok();
-    are_empty && is_kept && other.replace(NONE).is_err() && other.read(alloc).is_err()
+    is_locked && is_kept && other.replace(NONE).is_err() && other.read(alloc).is_err()
 }
 
-/// A file that one run holds is not read by another. A file that one run made is not replaced by
-/// another run that found none.
+/// A file that one run holds is not read or replaced by another run, until it is removed.
 #[test]
 fn a_file_that_is_held(rt: HostRuntime) -> Result<(), Fail> {
     let mut one = ReplacedFile::held(&rt, rt.alloc(), "held");

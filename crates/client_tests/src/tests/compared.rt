@@ -7,19 +7,19 @@ use super::check_row;
 use super::store::{Held, Kept};
 use catalog::{Catalog, CatalogFault, CatalogLine, SumVerdict, push_line};
 use dump_client::{Client, ListBlocks, Run};
+use dump_files::{
+    EnterFault, Entered, begun_line_of, enter_begun, enter_finished, enter_line, finished_line_of,
+    has_count, sum_line_of,
+};
 use dump_run::LABEL_BYTES;
-use rdump_fetch::{FetchSink, MemoryCopy};
-use rdump_files::FileFailed;
+use rdump_fetch::{ComparedSink, FetchSink, MemoryCopy};
 use rdump_list::compare_reel;
 use rdump_net::{Verdict, VolumeSink};
-use rdump_sums::{
-    ComparedSink, EnterFault, Entered, begun_line_of, enter_begun, enter_finished, enter_line,
-    finished_line_of, has_count, sum_line_of,
-};
 use std::alloc::{AllocError, Global};
 use std::test::Fail;
 use tape::MemoryMedium;
-use volume_sum::Summed;
+use volume_check::Summed;
+use whole_files::FileFailed;
 
 /// The lines of the label.
 pub(super) const LABEL: &[u8] = b"name /usr\nlevel 0\ndate 951782400\nsince 0\nvolume 1\nfirst 0\n";
@@ -218,6 +218,7 @@ fn answer_all(alloc: Global, client: &mut Client<Summed<ListBlocks>>) {
     for _ in 0..10 {
         asked.clear();
         if let Ok(true) = client.next_request(&mut asked) {
+            client.sent(&asked);
             client.feed(reply_to(&asked));
         }
     }

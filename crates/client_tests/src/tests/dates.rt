@@ -1,7 +1,7 @@
 //! Queries of a dumpdates file: what is printed, and the exit status.
 
 use super::check_row;
-use rdump_files::dates;
+use dump_files::dates;
 use rmt_wire::Counted;
 use std::alloc::Global;
 

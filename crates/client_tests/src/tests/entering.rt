@@ -1,13 +1,14 @@
-//! Dumps that are entered in dumpdates, and a base date.
+//! Dumps that are entered in dumpdates, a date as text, and files that are replaced.
 
 use super::check_row;
 use super::store::{ENTERED, FIRST, Held, Kept, OLD};
+use dump_files::{UpdateFault, date_text, update};
 use dumpdates::{DatesFault, Entry};
-use rdump_files::{FileFailed, ReplacedFile, UpdateFault, WholeFile, date_text, update};
 use rmt_wire::Counted;
 use std::alloc::Global;
 use std::fs;
 use std::test::Fail;
+use whole_files::{FileFailed, ReplacedFile, WholeFile};
 
 /// The result of reading the file, whether it can be replaced, the result of entering a dump, and
 /// the text that replaces the file.
@@ -59,18 +60,23 @@ fn a_date_as_text(rt: HostRuntime) {
     assert!(rt; text.as_str() == "Tue Feb 29 00:00:00 2000");
 }
 
+/// A file in place of the lock that is not empty stays, and nothing is read or replaced.
 #[test]
-fn what_lies_in_place_of_a_new_file(rt: HostRuntime) -> Result<(), Fail> {
+fn what_lies_in_place_of_a_lock(rt: HostRuntime) -> Result<(), Fail> {
     fs::write(&rt, "kept.new", OLD)?;
-    let file = ReplacedFile::new(&rt, rt.alloc(), "kept");
-    assert!(rt; file.find_fault().is_none());
+    let mut file = ReplacedFile::new(&rt, rt.alloc(), "kept");
+    assert!(rt; file.find_fault().is_some());
+    assert!(rt; file.read(rt.alloc()).is_err());
+    assert!(rt; file.replace(ENTERED).is_err());
+    let unknown = file.find_unknown_new()?;
+    assert!(rt; unknown.as_deref() == Some("kept.new"));
     let left = fs::read(&rt, "kept.new")?;
     fs::remove_file(&rt, "kept.new")?;
     assert!(rt; left.as_slice() == OLD);
     Ok(())
 }
 
-/// The text of a catalog is replaced, and the new file is gone then.
+/// The text of a catalog is replaced, and the lock is gone then.
 #[test]
 fn a_catalog_that_is_replaced(rt: HostRuntime) -> Result<(), Fail> {
     assert!(rt; is_made_and_gone(&rt));
@@ -80,9 +86,9 @@ fn a_catalog_that_is_replaced(rt: HostRuntime) -> Result<(), Fail> {
     Ok(())
 }
 
-/// Whether the new file is there after a read of the catalog, and gone after a replacement.
+/// Whether the lock is there after a read of the catalog, and gone after a replacement.
 fn is_made_and_gone(rt: &HostRuntime) -> bool {
-    let mut file = ReplacedFile::of_catalog(rt, rt.alloc(), "catalog");
+    let mut file = ReplacedFile::new(rt, rt.alloc(), "catalog");
     let is_made = file.read(rt.alloc()) == Ok(None)
         && fs::exists(rt, "catalog.new").unwrap_or(false);
     let is_gone = file.replace(b"a line\n").is_ok()
@@ -90,9 +96,9 @@ fn is_made_and_gone(rt: &HostRuntime) -> bool {
     is_made && is_gone
 }
 
-/// If another run has replaced this run's new file by its own, that file stays.
+/// If something else has taken the place of this run's lock, it stays.
 #[test]
-fn what_takes_the_name_of_a_new_file(rt: HostRuntime) -> Result<(), Fail> {
+fn what_takes_the_name_of_a_lock(rt: HostRuntime) -> Result<(), Fail> {
     fs::write(&rt, "taken", OLD)?;
     let mut file = ReplacedFile::new(&rt, rt.alloc(), "taken");
     assert!(rt; file.read(rt.alloc()).is_ok());

@@ -7,9 +7,8 @@ use super::fake::{FakePeer, Replies};
 use super::fixture::DEVICE;
 use catalog::Catalog;
 use dump_run::VolumeLabel;
-use rdump_fetch::{FetchFault, FetchSink, MemoryCopy, fetch_reel, push_copy_name};
+use rdump_fetch::{ComparedSink, FetchFault, FetchSink, MemoryCopy, fetch_reel, push_copy_name};
 use rdump_net::ReadFault;
-use rdump_sums::ComparedSink;
 use std::alloc::{AllocError, Global};
 use std::test::Fail;
 

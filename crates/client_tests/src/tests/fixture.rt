@@ -3,12 +3,12 @@
 ghost use Rattle.std.specs.Prelude.{◌≡◌, IfSome};
 
 use dump_client::Client;
+use dump_files::{PayloadFile, dumper_of, run_of};
 use rdump_args::DumpLine;
-use rdump_files::{PayloadFile, dumper_of, run_of};
 use std::alloc::Global;
 use std::time::Duration;
 use tape::MemoryMedium;
-use volume_sum::Summed;
+use volume_check::Summed;
 
 /// The size of a block in bytes, if three of them are dumped.
 pub(super) const TWO_BYTES: u64 = 2;

@@ -3,8 +3,8 @@
 use super::check_row;
 use super::fake::{FakePeer, Replies};
 use super::fixture::{PayloadDumper, TWO_BYTES, client};
+use console::ExitStatus;
 use dump_client::AttemptFault;
-use exit_status::ExitStatus;
 use rdump_net::{dump, failure_line};
 use rmt_wire::Counted;
 use std::alloc::Global;

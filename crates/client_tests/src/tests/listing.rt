@@ -4,12 +4,12 @@
 use super::check_row;
 use rdump_args::{ListLine, ListedReels};
 use rdump_list::{is_whole, push_verdict, run_ls};
-use reel_check::check_reel;
 use std::alloc::{AllocError, Global};
 use std::fs;
 use std::io::Stderr;
 use std::test::Fail;
 use tape::MemoryMedium;
+use volume_check::check_reel;
 
 /// No terminal, so no progress is shown.
 const NO_TERMINAL: Option<Stderr> = None;

@@ -1,15 +1,13 @@
 //! Streams that are read into a file.
 
 use super::check_row;
-use super::fixture::line;
-use rdump_args::DumpLine;
-use rdump_files::{
-    NamedSpool, SpoolFault, copy_all, named_spool_path, spool_folder, spool_unnamed,
-};
 use std::alloc::Global;
 use std::fs;
 use std::io::{self, ErrorKind, Read};
 use std::test::Fail;
+use whole_files::{
+    NamedSpool, SpoolFault, copy_all, named_spool_path, spool_folder, spool_unnamed,
+};
 
 /// What a read gives: bytes, or an error of this kind.
 type Piece = Result<&'static [u8], ErrorKind>;
@@ -113,17 +111,9 @@ fn a_spool_without_a_name(rt: HostRuntime) -> Result<(), Fail> {
 
 #[test]
 fn the_folder_of_a_spool(rt: HostRuntime) {
-    assert!(rt; spool_folder(&line(1)) == ".");
-    let given = DumpLine {
-        spool: Some("s"),
-        ..line(1)
-    };
-    assert!(rt; spool_folder(&given) == "s");
-    let beside = DumpLine {
-        dumpdates: "f/dates",
-        ..line(1)
-    };
-    assert!(rt; spool_folder(&beside) == "f");
+    assert!(rt; spool_folder(None, "dates") == ".");
+    assert!(rt; spool_folder(Some("s"), "f/dates") == "s");
+    assert!(rt; spool_folder(None, "f/dates") == "f");
 }
 
 /// Makes a spool with a name, of the bytes `abc`.

@@ -1,7 +1,7 @@
 //! A dumpdates file in memory, and its texts.
 
-use rdump_files::{FileFailed, WholeFile};
 use std::alloc::Global;
+use whole_files::{FileFailed, WholeFile};
 
 pub(super) const OLD: &[u8] = b"/usr                             0 Tue Feb 29 00:00:00 2000
 /usr                             1 Tue Feb 29 00:00:00 2000

@@ -1,7 +1,4 @@
 //! Reads the lines of counts in a checkpoint.
-//!
-//! A count is the record of a volume that was written whole: its number, its first block and its
-//! number of blocks.
 ghost use Rattle.std.specs.Prelude.{◌≡◌, ◌≤◌, length};
 ghost use Rattle.dump_run.specs.CheckpointParts.{AreCounts};
 
@@ -10,10 +7,6 @@ use super::head::HEAD_LINES;
 use crate::{ResumeFault, VolumeCount};
 use std::alloc::Global;
 
-/// Reads lines of counts up to the end of `bytes`, which follow the lines of the run.
-///
-/// Returns `BadLine` with the number of the first line that is no count, or `OutOfMemory` if an
-/// allocation fails.
 pub(super) fn read_counts(alloc: Global, bytes: &[u8]) -> Result<Vec<VolumeCount>, ResumeFault>
     ensures { AreCounts bytes.now result }
 {

@@ -1,4 +1,5 @@
-//! Reads the fields of a checkpoint or a label: each is a line of a keyword and a text.
+//! Reads the fields of a checkpoint or a label: each is a line of a keyword and a text. A function
+//! `.._field` returns what the first line contains and the bytes after it, or None.
 ghost use Rattle.std.specs.Prelude.{◌<◌, ◌^◌, IfSome, IsUtf8, codes};
 ghost use Rattle.dumpdates.specs.Entry.{IsName};
 ghost use Rattle.dump_run.specs.Run.{IsDevice};
@@ -10,11 +11,8 @@ use crate::run::is_device;
 use crate::{BLOCKS_LIMIT, VolumeCount};
 use dumpdates::is_name;
 
-/// The greatest value of each number of a count.
 const COUNT_LIMIT: u64 = BLOCKS_LIMIT as u64;
 
-/// Returns the rest of the first line after the keyword `word`, and the bytes after that line.
-/// Returns None if `bytes` do not begin with `word`, or if the line has no line feed.
 fn text_field<'a>(bytes: &'a [u8], word: &[u8]) -> Option<(&'a [u8], &'a [u8])>
     ensures { FindsText word.now NoFeed bytes.now result }
 {
@@ -22,8 +20,6 @@ fn text_field<'a>(bytes: &'a [u8], word: &[u8]) -> Option<(&'a [u8], &'a [u8])>
     cut(after, b'\n')
 }
 
-/// Returns the number after `word` in the first line, and the bytes after that line. Returns None
-/// if the line has another form, or if the number is not `least` to `most`.
 pub(crate) fn number_field<'a>(
     bytes: &'a [u8],
     word: &[u8],
@@ -38,15 +34,12 @@ pub(crate) fn number_field<'a>(
     Some((n, more))
 }
 
-/// Returns the bytes after the title line, or None if the first line is not the title.
 pub(super) fn title(bytes: &[u8]) -> Option<&[u8]>
     ensures { FindsTitle bytes.now result }
 {
     bytes.strip_prefix(b"rdump 1\n")
 }
 
-/// Returns the device in the first line, and the bytes after that line. Returns None if there is no
-/// valid device.
 pub(super) fn device_field(bytes: &[u8]) -> Option<(&[u8], &[u8])>
     ensures { FindsText (codes "device ") IsDevice bytes.now result }
 {
@@ -57,8 +50,6 @@ pub(super) fn device_field(bytes: &[u8]) -> Option<(&[u8], &[u8])>
     Some((device, more))
 }
 
-/// Returns the name after `word` in the first line, and the bytes after that line. Returns None if
-/// there is no valid name.
 pub(crate) fn name_field<'a>(bytes: &'a [u8], word: &[u8]) -> Option<(&'a [u8], &'a [u8])>
     ensures found { FindsText word.now IsName bytes.now result }
     ensures text { IfSome result (λ p. IsUtf8 p.0.now) }
@@ -70,8 +61,7 @@ pub(crate) fn name_field<'a>(bytes: &'a [u8], word: &[u8]) -> Option<(&'a [u8], 
     Some((name, more))
 }
 
-/// Reads the three numbers of a count, each 0 to `BLOCKS_LIMIT`. Returns None if the text has
-/// another form.
+/// Reads the three numbers of a count, each 0 to `BLOCKS_LIMIT`.
 fn count_of(text: &[u8]) -> Option<VolumeCount>
     ensures { IsCountText text.now result }
 {
@@ -84,8 +74,6 @@ fn count_of(text: &[u8]) -> Option<VolumeCount>
     })
 }
 
-/// Returns the count in the first line, and the bytes after that line. Returns None if the line is
-/// no count.
 pub(super) fn count_field(bytes: &[u8]) -> Option<(VolumeCount, &[u8])>
     ensures { FindsCount bytes.now result }
 {

@@ -11,16 +11,10 @@ use rmt_wire::RECORD_LIMIT;
 /// The number of lines for the run: the title and seven fields.
 pub(super) const HEAD_LINES: usize = 8;
 
-/// The greatest size of a block in bytes.
 const BLOCK_LIMIT: u64 = RECORD_LIMIT as u64;
 
-/// The greatest number of blocks.
 const LAST_BLOCK: u64 = BLOCKS_LIMIT as u64;
 
-/// Reads the run from the first lines, and returns it with the bytes after them.
-///
-/// Returns `BadLine` with the number of the first line that does not have its form, breaks a limit,
-/// or is missing.
 pub(super) fn read_head(bytes: &[u8]) -> Result<(Run, &[u8]), ResumeFault>
     ensures { IsHead bytes.now result }
 {

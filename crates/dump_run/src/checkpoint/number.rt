@@ -1,11 +1,10 @@
-//! Reads the numbers of a checkpoint.
+//! Reads numbers.
 ghost use Rattle.std.specs.Prelude.{◌≡◌, ◌^◌, ◌<◌, ◌↔◌, ℕ, decimal, true, Some};
 ghost use Rattle.dump_run.specs.CheckpointParts.{IsNumber};
 
 use itoa::Buffer;
 
-/// Parses a text as a number. It may also accept forms that `is_written` rejects, such as leading
-/// zeros.
+/// Parses a number. It may also accept forms that `is_written` rejects, such as leading zeros.
 fn parsed(text: &[u8]) -> Option<u64>
     ensures { (n : ℕ) → n < 2 ^ 64 → text.now ≡ decimal n → result ≡ Some n }
 {
@@ -15,7 +14,6 @@ fn parsed(text: &[u8]) -> Option<u64>
     }
 }
 
-/// Whether `text` is the decimal form of `n`, without leading zeros.
 fn is_written(n: u64, text: &[u8]) -> bool
     ensures { (result ≡ true) ↔ (text.now ≡ decimal n) }
 {
@@ -23,8 +21,7 @@ fn is_written(n: u64, text: &[u8]) -> bool
     digits.format(n).as_bytes() == text
 }
 
-/// Returns the number that `text` is, in decimal without leading zeros. Returns None if `text` has
-/// another form, or if the number is not `least` to `most`.
+/// Reads a number from `least` to `most`, in decimal without leading zeros.
 pub(super) fn number(text: &[u8], least: u64, most: u64) -> Option<u64>
     ensures { IsNumber least most text.now result }
 {

@@ -1,14 +1,10 @@
 //! Checks the order of the counts in a checkpoint.
-//!
-//! A count is the record of a volume that was written whole: its number, its first block and its
-//! number of blocks.
 ghost use Rattle.std.specs.Prelude.{◌↔◌, ◌≤◌, IsTrue};
 ghost use Rattle.dump_run.specs.CheckpointParts.{IsNext, AreOrdered};
 
 use crate::{Run, VolumeCount};
 
-/// Whether `count` can be volume `volume` of a run of `blocks` blocks, if the volume begins at
-/// block `first`.
+/// Whether `count` can be volume `volume`, which begins at block `first`.
 fn is_next(blocks: u32, volume: usize, first: u32, count: &VolumeCount) -> bool
     requires { first ≤ blocks }
     ensures { IsTrue result ↔ IsNext blocks volume first count.now }
@@ -18,7 +14,7 @@ fn is_next(blocks: u32, volume: usize, first: u32, count: &VolumeCount) -> bool
     is_its && is_within && (volume == 1 || first < blocks)
 }
 
-/// Returns how many of the counts, beginning with the first, are volumes of the run in order.
+/// Returns how many of the counts, from the first on, are in order.
 pub(super) fn ordered(run: &Run, counts: &[VolumeCount]) -> usize
     ensures { AreOrdered run.now counts.now result }
 {

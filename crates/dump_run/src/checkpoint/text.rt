@@ -1,7 +1,4 @@
 //! Writes the text of a checkpoint.
-//!
-//! A count is the record of a volume that was written whole: its number, its first block and its
-//! number of blocks.
 ghost use Rattle.std.specs.Prelude.{◌≡◌, ◌++◌, [], ◌∷◌, OnOk, OnErr, length, map, take};
 ghost use Rattle.rmt_wire.specs.Number.{line_feed};
 ghost use Rattle.dump_run.specs.Checkpoint.{checkpoint_text, count_line, joined, run_lines};
@@ -10,7 +7,6 @@ use crate::lines::TextLines;
 use crate::{Run, VolumeCount};
 use std::alloc::AllocError;
 
-/// Returns the lines of the run.
 fn run_text(run: &Run) -> TextLines
     ensures { result ≡ joined (run_lines run.now) }
 {
@@ -26,7 +22,6 @@ fn run_text(run: &Run) -> TextLines
     lines
 }
 
-/// Returns the line of a count.
 fn count_text(count: &VolumeCount) -> TextLines
     ensures { result ≡ count_line count.now ++ line_feed ∷ [] }
 {
@@ -41,8 +36,7 @@ fn count_text(count: &VolumeCount) -> TextLines
     line
 }
 
-/// Appends the text of a checkpoint. If an allocation fails, part of the text may have been
-/// appended.
+/// If an allocation fails, part of the text may have been appended.
 fn push_lines(run: &Run, counts: &[VolumeCount], out: &mut Vec<u8>) -> Result<(), AllocError>
     ensures appended { OnOk result (out.new.items ≡ out.old.items ++ checkpoint_text run.now counts.now) }
     ensures begun { take (length out.old.items) out.new.items ≡ out.old.items }
@@ -63,7 +57,6 @@ pub fn push_checkpoint(
     counts: &[VolumeCount],
     out: &mut Vec<u8>,
 ) -> Result<(), AllocError>
-    // Appends the text of the run and the counts. If the call fails, it appends nothing.
     ensures appended { OnOk result (out.new.items ≡ out.old.items ++ checkpoint_text run.now counts.now) }
     ensures unchanged { OnErr result (out.new.items ≡ out.old.items) }
 {

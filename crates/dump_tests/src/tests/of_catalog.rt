@@ -1,8 +1,8 @@
-//! The lines of catalogs that were written by hand, and what is left of such a file.
+//! The lines of catalogs that were written by hand.
 
 use catalog::{
     BegunLine, Catalog, CatalogFault, CatalogLine, CatalogRun, FinishedLine, SumLine, SumVerdict,
-    is_left_catalog, one_catalog, push_line, push_volume,
+    one_catalog, push_line, push_volume,
 };
 use dump_run::{DumpId, VolumeLabel};
 use std::alloc::{AllocError, Global};
@@ -63,26 +63,6 @@ static BAD_DUMPS: [&[u8]; 10] = [
     b"finished  /usr level 0 date 1 since 0: 1 volumes, 1 blocks of 0 bytes, 1 bytes\n",
     b"finished  /usr level 0 date 1 since 0: 1 volumes, 1 blocks of 262145 bytes, 1 bytes\n",
     b"finished /usr level 0 date 1 since 0: 1 volumes, 1 blocks of 1 bytes, 1 bytes\n",
-];
-
-/// Texts that no interrupted run leaves.
-static NOT_LEFT: [&[u8]; 16] = [
-    b"began",
-    b"begun /usr",
-    b"begun     /usr level 0 date 1 since 0: x",
-    b"finished  /usr level 0 date 1 since 0: 1 blocks",
-    b"\n",
-    b" ",
-    b"g",
-    b"0A",
-    b"00  ",
-    b"000102030405060708090a0b0c0d0e0f101112131415161718191a1b1c1d1e1f2",
-    b"000102030405060708090a0b0c0d0e0f101112131415161718191a1b1c1d1e1f ,",
-    b"000102030405060708090a0b0c0d0e0f101112131415161718191a1b1c1d1e1f   ",
-    b"000102030405060708090a0b0c0d0e0f101112131415161718191a1b1c1d1e1f  /usr l0",
-    b"000102030405060708090a0b0c0d0e0f101112131415161718191a1b1c1d1e1f  /usr level ,",
-    b"000102030405060708090a0b0c0d0e0f101112131415161718191a1b1c1d1e1f  /usr level 0 date x",
-    b"000102030405060708090a0b0c0d0e0f101112131415161718191a1b1c1d1e1f  a\n",
 ];
 
 /// Returns the label of a volume of the dump in `TEXT`.
@@ -319,14 +299,4 @@ fn a_bad_line_is_named(rt: HostRuntime) -> Result<(), Fail> {
     let memory = CatalogFault::OutOfMemory.to_string(rt.alloc())?;
     assert!(&rt; memory.as_str() == "out of memory");
     Ok(())
-}
-
-#[test]
-fn what_is_left_of_a_catalog(rt: HostRuntime) {
-    for end in 0..=TEXT.len() {
-        assert!(&rt; is_left_catalog(rt.alloc(), &TEXT[..end]) == Ok(true));
-    }
-    for bytes in NOT_LEFT {
-        assert!(&rt; is_left_catalog(rt.alloc(), bytes) == Ok(false));
-    }
 }

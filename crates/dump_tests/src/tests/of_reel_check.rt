@@ -1,12 +1,12 @@
 //! Reels that were written by hand, and what a check of them returns.
 
 use dump_run::{Run, label};
-use reel_check::{
-    Holding, ReelContents, ReelTally, VolumeEnd, check_reel, one_holding, one_volume,
-};
 use std::alloc::{AllocError, Global};
 use std::test::Fail;
 use tape::{FuseMedium, Medium, MediumFailed, MemoryMedium};
+use volume_check::{
+    Holding, ReelContents, ReelTally, VolumeEnd, check_reel, one_holding, one_volume,
+};
 
 /// One part of a reel.
 #[derive(Clone, Copy)]

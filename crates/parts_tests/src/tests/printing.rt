@@ -1,6 +1,6 @@
 //! Text from outside, as it is printed, against values worked out by hand.
 
-use printable::{PlainBytes, PlainLines, plain, plain_char, plain_line_char};
+use console::{PlainBytes, PlainLines, plain, plain_char, plain_line_char};
 use std::alloc::AllocError;
 
 /// Characters, and whether each is a control character. The table has the ends of both Unicode

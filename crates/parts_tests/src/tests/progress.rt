@@ -1,7 +1,7 @@
 //! The progress of a dump, as it is shown.
 
 use super::check_row;
-use rdump_files::{Clearing, ProgressLine};
+use dump_files::{Clearing, ProgressLine};
 use std::alloc::Global;
 use std::cell::Cell;
 use std::io::{self, Write};

@@ -1,6 +1,6 @@
 //! The numbers of the exit statuses, as dump(8) has them.
 
-use exit_status::ExitStatus;
+use console::ExitStatus;
 
 /// Each exit status, and its number (dump(8), "Diagnostics").
 static STATUSES: [(ExitStatus, u8); 3] = [

@@ -3,7 +3,7 @@
 
 use super::check_row;
 use super::commands::{NO_TERMINAL, NOWHERE};
-use exit_status::ExitStatus;
+use console::ExitStatus;
 use rdump_commands::run_arguments;
 use std::fs;
 use std::test::Fail;

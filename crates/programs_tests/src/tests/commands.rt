@@ -3,7 +3,7 @@
 
 use super::check_row;
 use super::exit_codes::DATES;
-use exit_status::ExitStatus;
+use console::ExitStatus;
 use rdump_args::{DumpLine, MtLine, ReadLine};
 use rdump_commands::{rdump, run_arguments, run_dates, run_dump, run_mt, run_read};
 use std::fs;

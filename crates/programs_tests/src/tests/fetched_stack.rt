@@ -3,9 +3,8 @@ ghost use Rattle.std.specs.Prelude.{◌≡◌, ◌≤◌, IfSome, length};
 
 use super::fixture::{DEVICE, client};
 use drives::{DriveTable, ListStacks, LocalHolds, Stacks};
-use rdump_fetch::{FetchSink, MemoryCopy, fetch_reel};
+use rdump_fetch::{ComparedSink, FetchSink, MemoryCopy, fetch_reel};
 use rdump_net::ReadFault;
-use rdump_sums::ComparedSink;
 use remote_tape::{TapeCause, TapeFault, TapeRequest};
 use rmt_tools::{MemoryPeer, dump, read_volume};
 use rmt_wire::Counted;

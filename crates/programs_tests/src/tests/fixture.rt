@@ -4,7 +4,7 @@ ghost use Rattle.std.specs.Prelude.{◌≡◌, length};
 
 use dump_client::{Client, ListBlocks, Run};
 use std::alloc::Global;
-use volume_sum::Summed;
+use volume_check::Summed;
 
 /// The drive's device.
 pub(super) const DEVICE: &[u8] = b"/dev/st0";

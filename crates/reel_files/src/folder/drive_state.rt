@@ -1,7 +1,4 @@
 //! One drive whose stack is a folder.
-//!
-//! A drive's latched reel is the first of its stack: it is in the drive until it is laid back or
-//! moved to the bin.
 
 ghost use Rattle.std.specs.Prelude.{◌≡◌, ◌≢◌, ◌⊎◌, false, true, Some, IfOk, IsSome, is_some, MatchBool, MatchResult};
 ghost use Rattle.reel_files.specs.Folders.{folder_row};
@@ -21,8 +18,6 @@ use std::marker::Model;
 /// The greatest number of interrupted moves that one latch finishes.
 const FINISH_TURNS: u32 = 100;
 
-/// A drive of a `FolderStacks`: its name, the folder of its stack, the file of the latched reel,
-/// and the state of that file's syncs.
 #[derive(Drop)]
 pub(super) struct FolderDriveState {
     name: String,
@@ -41,7 +36,6 @@ impl Model for FolderDriveState {
 }
 
 impl FolderDriveState {
-    /// Returns a drive with no reel latched. Fails if an allocation fails.
     pub(super) fn new(
         alloc: Global,
         drive: &FolderDrive<'_>,
@@ -56,21 +50,19 @@ impl FolderDriveState {
         })
     }
 
-    /// Whether the drive has that name.
     pub(super) fn is_named(&self, name: &[u8]) -> bool
         ensures { MatchBool result (self.now.name ≡ name.now) (self.now.name ≢ name.now) }
     {
         self.name.as_bytes() == name
     }
 
-    /// Returns the folder of the stack.
     pub(super) fn folder(&self) -> &str
         ensures { result.now ≡ self.now.folder }
     {
         self.folder.as_str()
     }
 
-    /// Records which reel is latched, or that none is. It also clears the record of failed syncs.
+    /// Records which reel is latched, or that none is. Clears the record of failed syncs.
     pub(super) fn note(&mut self, latched: Option<ReelFile>)
         ensures { self.new ≡ folder_row self.old.name self.old.folder (is_some latched) }
     {
@@ -78,9 +70,6 @@ impl FolderDriveState {
         self.syncs = Syncs::new();
     }
 
-    /// Opens and locks the file of the reel to latch. Returns `None` if one is already latched, or
-    /// if no regular file is in the folder. If the move of a reel was interrupted, it is finished
-    /// before, and this is logged.
     pub(super) fn find<R: FolderSystem, L: Log>(
         &self,
         rt: &R,
@@ -95,8 +84,8 @@ impl FolderDriveState {
         self.find_first(rt, bin, log)
     }
 
-    /// Opens and locks the file of the first reel that the bin does not have. Returns `None` if
-    /// there is none. Interrupted moves of the reels before it are completed, and each is logged.
+    /// Opens and locks the first file that the bin does not have. Finishes the interrupted moves of
+    /// those before it.
     fn find_first<R: FolderSystem, L: Log>(
         &self,
         rt: &R,
@@ -119,8 +108,6 @@ impl FolderDriveState {
         Err(Refusal::new(folder, "list", changed))
     }
 
-    /// Returns the warning that a move to the bin, cut short by an earlier stop, is now completed,
-    /// with the flaw found, if any.
     fn finished(&self, found: &OpenedReel, flaw: Option<MoveFlaw>) -> Report {
         let (drive, reel) = (self.name.as_str(), found.latched.name.as_str());
         let mut report = Report::warning(format_args!(
@@ -130,13 +117,11 @@ impl FolderDriveState {
         report
     }
 
-    /// Returns the report of a latch that failed.
     pub(super) fn refused(&self, refusal: &Refusal) -> Report {
         let (place, reason) = (refusal.place(), refusal.reason);
         Report::warning(format_args!("{}: open refused: {place}{reason}", self.name))
     }
 
-    /// Returns the report of a latch.
     pub(super) fn opened(&self, found: &OpenedReel) -> Report {
         let (drive, reel) = (self.name.as_str(), found.latched.name.as_str());
         let mut report = Report::new(format_args!("{drive}: {reel} opened"));
@@ -148,10 +133,7 @@ impl FolderDriveState {
         report
     }
 
-    /// Syncs the file of the latched reel, which has this medium, and records that no reel is
-    /// latched. It syncs only if the file was written to or truncated since the latch, even if that
-    /// failed. Returns the report of the close, or `None` if no reel was latched. It allocates
-    /// nothing.
+    /// Syncs the latched reel's file, and records that no reel is latched. Allocates nothing.
     pub(super) fn close<R: FolderSystem>(
         &mut self,
         rt: &R,
@@ -165,8 +147,6 @@ impl FolderDriveState {
         report
     }
 
-    /// Syncs the file of the latched reel if it was written to or truncated since the latch, even
-    /// if that failed. Returns the report of the close, or `None` if no reel is latched.
     fn sync<R: FolderSystem>(&mut self, rt: &R, bin: &str, medium: &FileMedium) -> Option<Report>
         ensures name { self.new.name ≡ self.old.name }
         ensures folder { self.new.folder ≡ self.old.folder }
@@ -193,10 +173,8 @@ impl FolderDriveState {
         Some(report)
     }
 
-    /// Moves the latched reel's file to the bin. `medium` is the open file of that reel. It
-    /// allocates nothing.
-    ///
-    /// Fails also if no reel is latched; nothing is changed then. A sync that failed is recorded.
+    /// Moves the latched reel's file to the bin. Fails also if no reel is latched. Allocates
+    /// nothing.
     pub(super) fn take_off<R: FolderSystem>(
         &mut self,
         rt: &R,
@@ -223,7 +201,6 @@ impl FolderDriveState {
         take_offline(&mut latched, &mut self.syncs)
     }
 
-    /// Returns the report of a move of the file with this medium. It allocates nothing.
     pub(super) fn moved(&self, moved: &Result<Moved, Refusal>, medium: &FileMedium) -> Report {
         let (drive, reel) = (self.name.as_str(), self.latched_name());
         match moved {
@@ -243,7 +220,6 @@ impl FolderDriveState {
         }
     }
 
-    /// Returns the name of the latched reel, or an empty one if none is latched.
     fn latched_name(&self) -> &str {
         match &self.latched {
             Some(file) => file.name.as_str(),
@@ -252,20 +228,14 @@ impl FolderDriveState {
     }
 }
 
-/// A file that was opened and locked, and what a drive keeps of it.
 #[derive(Drop)]
 pub(super) struct OpenedReel {
-    /// The handle.
     pub(super) file: File,
-    /// Whether it is open only to read.
     pub(super) reads_only: bool,
-    /// What the bin has under its name.
     in_bin: InBin,
-    /// What the drive keeps.
     pub(super) latched: ReelFile,
 }
 
-/// Returns what the drive keeps of a reel that was opened, along with its handle.
 fn found_of(opened: Opened) -> OpenedReel {
     let Opened {
         file,
@@ -290,7 +260,6 @@ fn found_of(opened: Opened) -> OpenedReel {
     }
 }
 
-/// Adds the flaw of a successful move, if it has one.
 fn add_flaw(report: &mut Report, flaw: Option<MoveFlaw>) {
     match flaw {
         None => {}
@@ -310,8 +279,6 @@ fn add_flaw(report: &mut Report, flaw: Option<MoveFlaw>) {
     }
 }
 
-/// Adds the reason of the last read or write of the file that failed, if one has failed since the
-/// latch.
 fn add_last_error(report: &mut Report, medium: &FileMedium) {
     if let Some(reason) = medium.last_error() {
         report.add_warning(format_args!(", a read or write failed: {reason}"));

@@ -5,7 +5,7 @@ use std::fs::{self, Metadata};
 use std::io::{self, ErrorKind};
 use std::os::unix::fs::MetadataExt;
 
-/// Identifies a file or folder of the system, whatever its name is.
+/// Identifies a file or folder, whatever its name is.
 #[derive(Clone, Copy, PartialEq, Eq)]
 pub(super) struct FileId {
     device: u64,
@@ -13,7 +13,6 @@ pub(super) struct FileId {
 }
 
 impl FileId {
-    /// Returns the identity of the file with this metadata.
     pub(super) fn of(known: &Metadata) -> FileId {
         FileId {
             device: known.dev(),
@@ -26,13 +25,13 @@ impl FileId {
         self.device == other.device
     }
 
-    /// Whether the metadata is that of this file and the file is a regular one.
+    /// Whether this is the metadata of this file, and it is a regular file.
     pub(super) fn is_same_file(self, known: &Metadata) -> bool {
         known.is_file() && FileId::of(known) == self
     }
 }
 
-/// Returns the metadata of what has this path, or `None` if nothing has it. It follows no link.
+/// Returns the metadata of what has this path, if anything has it. Follows no link.
 pub(super) fn known_at<R: FolderSystem>(rt: &R, path: &str) -> io::Result<Option<Metadata>> {
     match fs::symlink_metadata(rt, path) {
         Ok(known) => Ok(Some(known)),
@@ -41,18 +40,16 @@ pub(super) fn known_at<R: FolderSystem>(rt: &R, path: &str) -> io::Result<Option
     }
 }
 
-/// What the bin has under a reel's name.
+/// The state of a reel's name in the bin.
 #[derive(Clone, Copy, PartialEq, Eq)]
 pub(super) enum InBin {
-    /// The bin has nothing with that name.
     Nothing,
-    /// The bin has the reel's own file, because a move was interrupted between its two steps.
+    /// The reel's own file, because a move was interrupted between its two steps.
     SameFile,
-    /// The bin has another file, or a folder or a link.
+    /// Another file, or a folder or a link.
     Another,
 }
 
-/// Returns what the bin has at `path`, the path there of the file `id`.
 pub(super) fn look_in_bin<R: FolderSystem>(rt: &R, path: &str, id: FileId) -> io::Result<InBin> {
     Ok(match known_at(rt, path)? {
         None => InBin::Nothing,

@@ -1,22 +1,20 @@
 //! A line of a log, built without allocation.
 
 use arrayvec::ArrayString;
-use printable::plain_char;
+use console::plain_char;
 use std::fmt::{self, Write};
 
 /// The greatest number of bytes of a line. The time, the program's name and a seat are written
 /// before it, all in one write.
 const LINE_ROOM: usize = 980;
 
-/// The text of one line. Control characters are replaced by question marks, and text that does not
-/// fit is left out.
+/// Control characters become question marks. Text that does not fit is left out.
 #[derive(Clone, Copy)]
 pub(super) struct Line {
     text: ArrayString<LINE_ROOM>,
 }
 
 impl Line {
-    /// Returns an empty line.
     pub(super) fn new() -> Line {
         Line {
             text: ArrayString::new(),
@@ -34,7 +32,6 @@ impl Line {
         Ok(())
     }
 
-    /// Returns the text of the line.
     pub(super) fn as_str(&self) -> &str {
         self.text.as_str()
     }

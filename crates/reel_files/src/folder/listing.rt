@@ -1,7 +1,4 @@
 //! Finds the first reel of a folder.
-//!
-//! A drive's latched reel is the first of its stack: it is in the drive until it is laid back or
-//! moved to the bin.
 
 use super::known::{FileId, InBin, known_at, look_in_bin};
 use super::lock::take_lock;
@@ -11,11 +8,9 @@ use std::alloc::Global;
 use std::fs::{File, OpenOptions};
 use std::io::{self, BufRead, BufReader, ErrorKind, Split};
 
-/// How many times a folder is listed for one latch, if each time a name or the first reel was gone
-/// before it was opened.
+/// How many times one latch lists a folder in which files change meanwhile.
 const LIST_TURNS: u32 = 100;
 
-/// A regular file as it was listed.
 #[derive(Drop)]
 struct Listed {
     name: String,
@@ -28,39 +23,28 @@ struct Listed {
 enum Seen {
     /// A regular file. For a folder, it is the first one.
     File(Listed),
-    /// There is no regular file.
     NoFile,
     /// A name that was listed is gone, so an earlier name may be new in the folder.
     Gone,
 }
 
-/// A reel whose file is open and locked.
 #[derive(Drop)]
 pub(super) struct Opened {
-    /// The handle, which owns the lock.
     pub(super) file: File,
-    /// Whether it is open only to read.
     pub(super) reads_only: bool,
-    /// The name of the reel.
     pub(super) name: String,
-    /// Its path in the folder.
     pub(super) path: String,
-    /// The path that it would have in the bin.
     pub(super) bin_path: String,
-    /// The identity of the file.
     pub(super) id: FileId,
-    /// What the bin has at that path. If it is another file, the reel is open only to read.
     pub(super) in_bin: InBin,
 }
 
-/// Returns the names in the folder, as bytes.
 fn names_in<R: FolderSystem>(rt: &R, folder: &str) -> io::Result<Split<BufReader<R::Dir>, Global>> {
     let path = format!(in rt.alloc(); "{folder}/")?;
     let names = BufReader::new(rt.alloc(), rt.open_dir(path.as_str())?)?;
     Ok(names.split(rt.alloc(), 0))
 }
 
-/// Returns the name as text. Fails if it is not UTF-8.
 fn text_of(folder: &str, name: Vec<u8>) -> Result<String, Refusal> {
     match String::from_utf8(name) {
         Ok(text) => Ok(text),
@@ -68,7 +52,6 @@ fn text_of(folder: &str, name: Vec<u8>) -> Result<String, Refusal> {
     }
 }
 
-/// Whether the name comes before that of the file.
 fn is_before(name: &str, first: &Seen) -> bool {
     match first {
         Seen::File(first) => name.as_bytes() < first.name.as_bytes(),
@@ -76,7 +59,6 @@ fn is_before(name: &str, first: &Seen) -> bool {
     }
 }
 
-/// Looks up what has the name. It follows no link.
 fn look_up<R: FolderSystem>(rt: &R, folder: &str, name: String) -> Result<Seen, Refusal> {
     let path = format!(in rt.alloc(); "{folder}/{name}")?;
     match at(path.as_str(), "stat", known_at(rt, path.as_str()))? {
@@ -89,11 +71,8 @@ fn look_up<R: FolderSystem>(rt: &R, folder: &str, name: String) -> Result<Seen, 
     }
 }
 
-/// Returns the first regular file of the folder, in the order of the names' bytes. Folders and
-/// links do not count, and names that begin with a dot are skipped. If a name is gone when it is
-/// looked up, it returns `Gone`: its file may have the first name now.
-///
-/// Fails also if any other name is not UTF-8.
+/// Returns the first regular file of the folder, in the order of the names' bytes. Skips names that
+/// begin with a dot. Fails also if any other name is not UTF-8.
 fn first_file<R: FolderSystem>(rt: &R, folder: &str) -> Result<Seen, Refusal> {
     let mut first = Seen::NoFile;
     for name in at(folder, "open", names_in(rt, folder))? {
@@ -114,8 +93,7 @@ fn first_file<R: FolderSystem>(rt: &R, folder: &str) -> Result<Seen, Refusal> {
     Ok(first)
 }
 
-/// Opens a file to read and to append, or only to read if the system allows no more. Returns
-/// whether it is open only to read, too.
+/// Opens a file to read and to append, or only to read (`true`) if the system allows no more.
 fn open_file<R: FolderSystem>(rt: &R, path: &str) -> io::Result<(File, bool)> {
     let error = match OpenOptions::new().read(true).append(true).open(rt, path) {
         Ok(file) => return Ok((file, false)),
@@ -129,9 +107,7 @@ fn open_file<R: FolderSystem>(rt: &R, path: &str) -> io::Result<(File, bool)> {
     }
 }
 
-/// Opens the file to read and to append, or only to read if the system allows no more or if the bin
-/// has another file with its name. Returns whether it is open only to read, too. Returns `None` if
-/// nothing has the path.
+/// Like `open_file`, but only to read if the bin has another file with its name.
 fn open_there<R: FolderSystem>(
     rt: &R,
     path: &str,
@@ -148,10 +124,8 @@ fn open_there<R: FolderSystem>(
     }
 }
 
-/// Opens the file at this path and takes its advisory lock, which belongs to the handle. It is open
-/// only to read if the system allows no more, or if `in_bin` says that the bin has another file
-/// with its name. Returns `None` if the path did not lead to the file `id` when it was opened, or
-/// does not now that it is locked.
+/// Like `open_there`, and takes the file's lock. Returns `None` if the path does not lead to the
+/// file `id`, before or after that.
 fn open_locked<R: FolderSystem>(
     rt: &R,
     path: &str,
@@ -172,10 +146,8 @@ fn open_locked<R: FolderSystem>(
     }
 }
 
-/// Opens the file that was listed and takes its advisory lock. Returns `None` if the path does not
-/// lead to that file, or if what the bin has under its name has changed meanwhile.
-///
-/// Fails also if another handle has the lock.
+/// Opens and locks a listed file. Returns `None` if it, or what the bin has under its name, has
+/// changed.
 fn open_listed<R: FolderSystem>(
     rt: &R,
     listed: Listed,
@@ -202,12 +174,8 @@ fn open_listed<R: FolderSystem>(
     }))
 }
 
-/// Opens and locks the first reel of the folder to read and to append. It is opened only to read if
-/// the system allows no more, or if the bin has another file with its name. Returns `None` if there
-/// is no reel.
-///
-/// If a listed name is gone, or the first file now has another name or is another file, it lists
-/// the folder again. It gives up after 100 listings.
+/// Opens and locks the first reel of the folder. If a file has changed meanwhile, lists the folder
+/// again. Gives up after 100 listings.
 pub(super) fn open_first<R: FolderSystem>(
     rt: &R,
     folder: &str,

@@ -7,15 +7,13 @@ use std::fs::{self, Metadata};
 use std::io::{self, ErrorKind};
 use std::os::unix::fs::MetadataExt;
 
-/// Returns the user that runs the program: the owner of the program's own entry in `/proc`. Returns
-/// `None` if there is no such entry.
+/// Returns the user that runs the program: the owner of its own entry in `/proc`, if there is one.
 fn user<R: FolderSystem>(rt: &R) -> Option<u32> {
     let own = fs::metadata(rt, "/proc/self").ok()?;
     Some(own.uid())
 }
 
-/// Whether the permissions allow the user to write. A user who is not the owner may be in the
-/// group. For the superuser, and for an unknown user, it is whether anybody may write.
+/// A user who is not the owner may be in the group.
 fn may_write(found: &Metadata, user: Option<u32>) -> bool {
     match user {
         Some(0) | None => !found.permissions().readonly(),
@@ -24,9 +22,8 @@ fn may_write(found: &Metadata, user: Option<u32>) -> bool {
     }
 }
 
-/// Returns the identity of a folder if it can be used, as far as that shows without changing
-/// anything. The folder and what is in it must be readable. Its permissions must allow the
-/// program's user, or its group, to write.
+/// Returns the identity of a folder that can be read and, as far as that shows without changing
+/// anything, be written to.
 pub(super) fn look_at<R: FolderSystem>(rt: &R, folder: &str) -> io::Result<FileId> {
     fs::read_dir(rt, folder)?;
     let inside = format!(in rt.alloc(); "{folder}/.")?;
@@ -37,8 +34,6 @@ pub(super) fn look_at<R: FolderSystem>(rt: &R, folder: &str) -> io::Result<FileI
     Ok(FileId::of(&found))
 }
 
-/// Checks that the folder of a further drive can be used, as far as that shows without changing
-/// anything. Adds its identity to `seen`, those of the earlier drives.
 pub(super) fn look_at_next<R: FolderSystem>(
     rt: &R,
     folder: &str,
@@ -48,15 +43,12 @@ pub(super) fn look_at_next<R: FolderSystem>(
     Ok(())
 }
 
-/// Returns a path in this folder that no file has, since its name is longer than a file system
-/// allows.
 fn too_long<R: FolderSystem>(rt: &R, folder: &str) -> Result<String, AllocError> {
     format!(in rt.alloc(); "{folder}/.{:0255}", 0)
 }
 
-/// Fails if the system does not rename from the folder to the bin's folder, because they are on
-/// different mounts or allow no writes. The system checks this before it looks at the names. A name
-/// that is too long is therefore used, which changes nothing.
+/// Fails if the folders are on different mounts or allow no writes. It tries a rename with a name
+/// that is too long. The system checks the mounts before the names, so this changes nothing.
 pub(super) fn look_between<R: FolderSystem>(rt: &R, folder: &str, bin: &str) -> io::Result<()> {
     let from = too_long(rt, folder)?;
     let to = too_long(rt, bin)?;
@@ -70,8 +62,6 @@ pub(super) fn look_between<R: FolderSystem>(rt: &R, folder: &str, bin: &str) -> 
     }
 }
 
-/// Returns why this drive's folder cannot be used along with the bin's folder or with those of
-/// earlier drives.
 pub(super) fn clash_of(seen: &[FileId], drive: usize, bin: FileId) -> Option<io::Error> {
     let own = *seen.get(drive)?;
     if own == bin {

@@ -1,7 +1,7 @@
 //! Failed calls of the system, with their reasons.
 
 use super::line::Line;
-use printable::PlainBytes;
+use console::PlainBytes;
 use std::alloc::AllocError;
 use std::fmt::Write;
 use std::io::{self, ErrorKind};
@@ -10,17 +10,14 @@ use std::io::{self, ErrorKind};
 /// name of a drive, up to 255 bytes, and for the reason.
 const PATH_ROOM: usize = 600;
 
-/// A failed call of the system.
 #[derive(Clone, Copy)]
 pub(super) struct Refusal {
     /// The path and the call, like `st0/r1: open: `. It is empty if an allocation failed.
     place: Line,
-    /// Why the call failed.
     pub(super) reason: io::Error,
 }
 
 impl Refusal {
-    /// Returns the failure of this call for this path.
     pub(super) fn new(path: &str, call: &str, reason: io::Error) -> Refusal {
         let mut place = Line::new();
         let rest = match place.add(path, PATH_ROOM) {
@@ -31,8 +28,8 @@ impl Refusal {
         Refusal { place, reason }
     }
 
-    /// Returns the failure for a name in this folder that is not UTF-8. Parts that are not text are
-    /// replaced by question marks.
+    /// Returns the failure of a name that is not UTF-8, with question marks for parts that are not
+    /// text.
     pub(super) fn of_name(folder: &str, name: &[u8]) -> Refusal {
         let mut path = Line::new();
         let name = PlainBytes(name);
@@ -41,7 +38,6 @@ impl Refusal {
         Refusal::new(path.as_str(), "list", reason)
     }
 
-    /// Returns the path and the call, to be printed before the reason.
     pub(super) fn place(&self) -> &str {
         self.place.as_str()
     }
@@ -56,7 +52,7 @@ impl From<AllocError> for Refusal {
     }
 }
 
-/// Adds the path and the call to the error of `given`, if it failed.
+/// Adds the path and the call to an error.
 pub(super) fn at<T: Drop>(path: &str, call: &str, given: io::Result<T>) -> Result<T, Refusal> {
     match given {
         Ok(value) => Ok(value),

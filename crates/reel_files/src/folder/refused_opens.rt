@@ -2,8 +2,8 @@
 
 use super::report::Report;
 use crate::Log;
+use console::PlainBytes;
 use drives::{DriveFault, OpenRefusal};
-use printable::PlainBytes;
 use std::cell::Cell;
 
 /// Logs refused opens. If several opens in a row are refused for the same reason, it logs only the
@@ -28,14 +28,15 @@ impl RefusedOpens {
     }
 
     /// Logs that an open of the drive with this name was refused. `no_reel` ends the line if the
-    /// stack has no reel. A reel that could not be latched has no line here.
+    /// stack has no reel. A reel that could not be latched has no line here: the latch knows the
+    /// reason.
     pub fn log<L: Log>(&self, log: &L, name: &[u8], why: OpenRefusal, no_reel: &str) {
         if let Some(report) = report_of(name, why, no_reel) {
             self.write(&report, log);
         }
     }
 
-    /// Writes the report of a refused open to the log, unless it has the text of the last one.
+    /// Logs the report, unless it has the text of the last one.
     pub(super) fn write<L: Log>(&self, report: &Report, log: &L) {
         if let Some(last) = self.last.get()
             && last.text() == report.text()
@@ -47,8 +48,6 @@ impl RefusedOpens {
     }
 }
 
-/// Returns the report of a refused open. Returns `None` if the reel could not be latched: the latch
-/// knows the reason.
 fn report_of(name: &[u8], why: OpenRefusal, no_reel: &str) -> Option<Report> {
     let drive = PlainBytes(name);
     match why {

@@ -6,7 +6,7 @@ ghost use Rattle.std.specs.Prelude.{◌≡◌, ◌<◌, length};
 use dump_run::{Blocks, ListBlocks, Run, VolumeCount, label};
 use std::test::Fail;
 use tape::{MediumFailed, MemoryMedium};
-use volume_sum::{EntryHasher, Summed, medium_sum};
+use volume_check::{EntryHasher, Summed, medium_sum};
 
 /// The record file of a record `abc` and a mark.
 static FILE: &[u8] = b"\x03\0\0\0abc\x03\0\0\0\0\0\0\0";
@@ -59,9 +59,9 @@ fn sums_a_medium(rt: HostRuntime) -> Result<(), Fail> {
 /// The sums of a volume of two blocks and of three blocks.
 type Sums = (Option<[u8; 32]>, Option<[u8; 32]>);
 
-/// Begins a volume, and reads the block 0, the block `second` and the block 2. Returns the sums of
-/// its volume if the volume has the first two blocks, and if it has all three.
-fn sums_after_reads(payload: Vec<u8>, is_on: bool, second: u32) -> Option<Sums>
+/// Begins a volume, and reads and sends the block 0, the block `second` and the block 2. Returns the
+/// sums of its volume if the volume has the first two blocks, and if it has all three.
+fn sums_of_sent(payload: Vec<u8>, is_on: bool, second: u32) -> Option<Sums>
     requires sizes { length payload.items ≡ 6 }
     requires block { second < 3 }
 {
@@ -70,8 +70,11 @@ fn sums_after_reads(payload: Vec<u8>, is_on: bool, second: u32) -> Option<Sums>
     source.begin_volume(&label(&run, 1, 0), 1, 0);
     let mut block = [0; 2];
     source.read(0, &mut block).ok()?;
+    source.sent(0, &block);
     source.read(second, &mut block).ok()?;
+    source.sent(second, &block);
     source.read(2, &mut block).ok()?;
+    source.sent(2, &block);
     let (volume, first) = (1, 0);
     let two = source.sum(
         &run,
@@ -96,20 +99,20 @@ fn sums_after_reads(payload: Vec<u8>, is_on: bool, second: u32) -> Option<Sums>
 fn sums_a_volume(rt: HostRuntime) -> Result<(), Fail> {
     let payload = Vec::from_slice(rt.alloc(), b"abcdef")?;
     let wanted = (Some(*OF_TWO_BLOCKS), Some(*OF_THREE_BLOCKS));
-    assert!(rt; sums_after_reads(payload, true, 1) == Some(wanted));
+    assert!(rt; sums_of_sent(payload, true, 1) == Some(wanted));
     Ok(())
 }
 
 #[test]
 fn sums_no_blocks_out_of_order(rt: HostRuntime) -> Result<(), Fail> {
     let payload = Vec::from_slice(rt.alloc(), b"abcdef")?;
-    assert!(rt; sums_after_reads(payload, true, 2) == Some((None, None)));
+    assert!(rt; sums_of_sent(payload, true, 2) == Some((None, None)));
     Ok(())
 }
 
 #[test]
 fn sums_nothing_if_off(rt: HostRuntime) -> Result<(), Fail> {
     let payload = Vec::from_slice(rt.alloc(), b"abcdef")?;
-    assert!(rt; sums_after_reads(payload, false, 1) == Some((None, None)));
+    assert!(rt; sums_of_sent(payload, false, 1) == Some((None, None)));
     Ok(())
 }

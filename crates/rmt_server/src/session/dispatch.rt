@@ -23,7 +23,6 @@ pub(crate) enum Given {
     Bytes(usize),
 }
 
-/// Carries out an operation of mtio and returns its count.
 fn operate<H: Holds, S: Stacks>(
     drives: &mut DriveTable<H, S>,
     session_state: &mut SessionState<H::Seat, S::Reel>,
@@ -71,7 +70,6 @@ pub(crate) fn dispatch<H: Holds, S: Stacks>(
     }
 }
 
-/// The result of a request whose reply has a number.
 fn numbered(given: Result<u32, Refusal>) -> Result<Given, Refusal>
     ensures reply { (buffer : List ℕ) → outcome_reply result buffer ≡ number_reply given }
     ensures small { IfOk given (λ n. n ≤ 2147483647) → IsOutcomeSayable result }
@@ -83,7 +81,6 @@ fn numbered(given: Result<u32, Refusal>) -> Result<Given, Refusal>
     }
 }
 
-/// The result of a read whose bytes are in the buffer.
 fn filled(read: Result<usize, Refusal>) -> Result<Given, Refusal>
     ensures reply { (buffer : List ℕ) → outcome_reply result buffer ≡ data_reply read buffer }
     ensures small { IsOutcomeSayable result }

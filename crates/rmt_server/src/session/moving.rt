@@ -11,9 +11,8 @@ use crate::session::Opened;
 use drives::{DriveTable, Holds, Stacks};
 use tape::Reel;
 
-/// Rewinds the open reel, moves it to the bin, and returns `count`. The drive stays held.
-///
-/// If the move fails, the reel stays open, at its beginning.
+/// Rewinds the open reel, moves it to the bin, and returns `count`. The drive stays held. If the
+/// move fails, the reel stays open, at its beginning.
 pub(crate) fn take_offline<H: Holds, S: Stacks>(
     drives: &mut DriveTable<H, S>,
     opened: &mut Option<Opened<S::Reel>>,

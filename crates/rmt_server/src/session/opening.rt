@@ -1,7 +1,4 @@
 //! Opens and closes a drive.
-//!
-//! A drive's latched reel is the first of its stack: it is in the drive until it is laid back or
-//! moved to the bin.
 ghost use Rattle.std.specs.Prelude.{◌≡◌, ℕ, ◌<◌, Some, None, IfOk};
 ghost use Rattle.drives.specs.Calls.{stacks_kind};
 ghost use Rattle.drives.specs.Stacking.{HasLatched};
@@ -29,7 +26,7 @@ fn put_back<S: Stacks>(stacks: &mut S, drive: usize, reel: Option<S::Reel>)
     }
 }
 
-/// Closes what is open, if anything: lays its reel back on the stack and gives back the drive.
+/// Closes what is open, if anything.
 pub(crate) fn close<H: Holds, S: Stacks>(
     drives: &mut DriveTable<H, S>,
     session_state: &mut SessionState<H::Seat, S::Reel>,
@@ -45,7 +42,6 @@ pub(crate) fn close<H: Holds, S: Stacks>(
     drives.holds.give(&mut session_state.seat, drive);
 }
 
-/// Closes what is open and returns 0. Fails with `BadDescriptor` if nothing is open.
 pub(crate) fn close_opened<H: Holds, S: Stacks>(
     drives: &mut DriveTable<H, S>,
     session_state: &mut SessionState<H::Seat, S::Reel>,
@@ -62,8 +58,7 @@ pub(crate) fn close_opened<H: Holds, S: Stacks>(
     Ok(0)
 }
 
-/// Takes the drive with that name, latches its first reel, and returns 0. Nothing may be open
-/// before. The stacks are told why an open is refused, for their log.
+/// Opens the drive with that name. The stacks log why an open is refused.
 fn open_named<H: Holds, S: Stacks>(
     drives: &mut DriveTable<H, S>,
     session_state: &mut SessionState<H::Seat, S::Reel>,
@@ -100,7 +95,6 @@ fn open_named<H: Holds, S: Stacks>(
     }
 }
 
-/// Closes what is open, then takes the drive with that name, latches its first reel, and returns 0.
 pub(crate) fn open<H: Holds, S: Stacks>(
     drives: &mut DriveTable<H, S>,
     session_state: &mut SessionState<H::Seat, S::Reel>,

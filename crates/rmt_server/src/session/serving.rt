@@ -1,6 +1,4 @@
 //! The requests that the open reel serves.
-//!
-//! `access` is how the device was opened: for reading, writing or both.
 ghost use Rattle.std.specs.Prelude.{◌≡◌, ℕ, ◌<◌, ◌≤◌, ◌&&◌, Some, None, IfOk, length};
 ghost use Rattle.rmt_wire.specs.declared.limits.TheConstants.{RECORD_LIMIT};
 ghost use Rattle.rmt_wire.specs.Request.PlainRequest.{Write, WriteDropped, Read, Op};
@@ -35,7 +33,7 @@ pub(crate) fn write<R: Reel>(opened: &mut Option<Opened<R>>, bytes: &[u8]) -> Re
     }
 }
 
-/// Returns the error for a write of more than `RECORD_LIMIT` bytes, which were dropped.
+/// The error for a write of more than `RECORD_LIMIT` bytes, which were dropped.
 pub(crate) fn refuse_dropped<R>(opened: &Option<Opened<R>>) -> Refusal
     ensures { (count : ℕ) → refusal (status_at opened.now) (WriteDropped count) ≡ Some result }
 {
@@ -47,8 +45,8 @@ pub(crate) fn refuse_dropped<R>(opened: &Option<Opened<R>>) -> Refusal
     }
 }
 
-/// Reads one record, copies at most `count` of its bytes into `into`, and returns how many. It
-/// copies no more than `RECORD_LIMIT` bytes.
+/// Reads one record, copies at most `count` and at most `RECORD_LIMIT` of its bytes into `into`,
+/// and returns how many.
 pub(crate) fn read<R: Reel>(
     opened: &mut Option<Opened<R>>,
     into: &mut [u8],
@@ -72,7 +70,7 @@ pub(crate) fn read<R: Reel>(
     }
 }
 
-/// Carries out an operation of mtio on the open reel and returns `count`. Not for operation 6.
+/// Carries out an operation of mtio except 6 on the open reel, and returns `count`.
 pub(crate) fn operate<R: Reel>(
     opened: &mut Option<Opened<R>>,
     op: u32,
@@ -94,7 +92,6 @@ pub(crate) fn operate<R: Reel>(
     }
 }
 
-/// Fails if the bytes may not be written as one record.
 fn check_write(access: Access, bytes: &[u8]) -> Result<(), Refusal>
     ensures { write_refusal access (length bytes.now) ≡ refusal_in result }
 {
@@ -107,7 +104,6 @@ fn check_write(access: Access, bytes: &[u8]) -> Result<(), Refusal>
     Ok(())
 }
 
-/// Fails if a read with this count is not allowed.
 fn check_read(access: Access, count: u32) -> Result<(), Refusal>
     ensures { read_refusal access count ≡ refusal_in result }
 {
@@ -120,7 +116,6 @@ fn check_read(access: Access, count: u32) -> Result<(), Refusal>
     Ok(())
 }
 
-/// Fails if the operation is unknown or not allowed.
 fn check_op(access: Access, op: u32) -> Result<(), Refusal>
     ensures { op_refusal access op ≡ refusal_in result }
 {

@@ -10,7 +10,6 @@ pub(crate) struct Opened<R> {
     pub(crate) reel: Option<R>,
 }
 
-/// A seat and what it has open.
 #[derive(Drop)]
 pub(crate) struct SessionState<Seat, R> {
     pub(crate) seat: Seat,

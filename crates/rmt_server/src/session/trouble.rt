@@ -1,4 +1,4 @@
-//! Trouble for the open reel, if drives and reels are in memory.
+//! Trouble for the open reel in memory.
 ghost use Rattle.std.specs.Prelude.{◌≡◌};
 ghost use Rattle.tape.specs.contracts.troubled.TroubledReelReel.TheImpl.{ghosts as of_reel};
 ghost use Rattle.drives.specs.contracts.list.ListStacksStacks.TheImpl.{ghosts as of_stacks};
@@ -13,7 +13,6 @@ use crate::session::Session;
 use drives::{Holds, ListStacks};
 use tape::{Trouble, TroubledReel};
 
-/// Sets how the reel's next device call fails, if there is a reel.
 fn set_in(reel: &mut Option<TroubledReel>, trouble: Trouble)
     ensures { reel.new ≡ troubled trouble reel.old }
 {
@@ -25,15 +24,12 @@ fn set_in(reel: &mut Option<TroubledReel>, trouble: Trouble)
 impl<H: Holds> Session<H, ListStacks> {
     /// Sets how the next device call of the open reel fails, and replaces any earlier setting. It
     /// does nothing if no reel is open. The trouble stays with the reel until a device call meets
-    /// it. A close lays the reel on these stacks along with its trouble.
+    /// it, also if a close lays the reel back.
     pub fn trouble(&mut self, trouble: Trouble)
-        // The seat does not change. Drives that matched the session still match the session.
         ensures seat { self.new.seat ≡ self.old.seat }
         ensures at { (drives : Drives H ListLibrary H.Seat TroubledTape) →
             IsAt (kinds H.Holds of_stacks of_reel) (state drives self.old) →
             IsAt (kinds H.Holds of_stacks of_reel) (state drives self.new) }
-        // For reels in memory, `trouble` sets how the next device call of the open reel fails.
-        // Nothing else of the open drive and its reel changes.
         ensures set { self.new.opened ≡ with_trouble trouble self.old.opened }
     {
         if let Some(device) = &mut self.session_state.opened {

@@ -83,7 +83,6 @@ impl FarEnd {
         self.session.end(&mut self.drives);
     }
 
-    /// Ends the session and returns the drives.
     pub(super) fn into_drives(mut self) -> Drives
         ensures apart { IsAfterEnd self.drives self.session result }
         ensures enough { length result.stacks.library.drives ≤ length result.holds.numbers }
@@ -117,8 +116,7 @@ fn take_in(
     Ok(true)
 }
 
-/// Carries out each whole request that the reader holds. Returns false if the bytes are no request,
-/// so that no more can follow.
+/// Carries out each whole request that the reader holds. Returns false as `take_in` does.
 fn carry_all(
     wire: &mut RequestReader,
     session: &mut Server,

@@ -27,7 +27,6 @@ impl Model for Log {
 }
 
 impl Log {
-    /// Makes an empty log.
     pub(super) fn new(alloc: Global) -> Log
         ensures { IsLogOf result [] }
     {
@@ -37,28 +36,25 @@ impl Log {
         }
     }
 
-    /// Logs that the connection ended.
     pub(super) fn end(&mut self)
         ensures { Logs IsLogOf self.old self.new (Ended ∷ []) }
     {
         self.ends = self.ends.saturating_add(1);
     }
 
-    /// Logs that a connection was made. Returns whether it could.
     pub(super) fn connect(&mut self) -> bool
         ensures { Logs IsLogOf self.old self.new (events_if result (Connected ∷ [])) }
     {
         self.flush_ends() && push_connected(&mut self.passed)
     }
 
-    /// Logs that these bytes were sent. Returns whether it could.
     pub(super) fn send(&mut self, bytes: &[u8]) -> bool
         ensures { Logs IsLogOf self.old self.new (events_if result (map Sent bytes.now)) }
     {
         self.flush_ends() && push_sent(&mut self.passed, bytes)
     }
 
-    /// Logs that these bytes came from the peer. Returns whether it could.
+    /// Logs that these bytes came from the peer.
     pub(super) fn give(&mut self, bytes: &[u8]) -> bool
         ensures { Logs IsLogOf self.old self.new (events_if result (map Given bytes.now)) }
     {
@@ -89,14 +85,12 @@ fn push_ends(passed: &mut Vec<Passed>, ends: u64) -> bool
     passed.resize(all, Passed::Ended).is_ok()
 }
 
-/// Appends that a connection was made. Returns false if the allocation fails.
 fn push_connected(passed: &mut Vec<Passed>) -> bool
     ensures { passed.new.items ≡ passed.old.items ++ events_if result (Connected ∷ []) }
 {
     passed.push(Passed::Connected).is_ok()
 }
 
-/// Appends that these bytes were sent. Returns false if the allocation fails.
 fn push_sent(passed: &mut Vec<Passed>, bytes: &[u8]) -> bool
     ensures { passed.new.items ≡ passed.old.items ++ events_if result (map Sent bytes.now) }
 {
@@ -109,7 +103,6 @@ fn push_sent(passed: &mut Vec<Passed>, bytes: &[u8]) -> bool
     true
 }
 
-/// Appends that these bytes came from the peer. Returns false if the allocation fails.
 fn push_given(passed: &mut Vec<Passed>, bytes: &[u8]) -> bool
     ensures { passed.new.items ≡ passed.old.items ++ events_if result (map Given bytes.now) }
 {

@@ -1,6 +1,4 @@
-//! Reads the reply that bytes begin with.
-//!
-//! The kind of a reply is a number or data.
+//! Reads the reply that bytes begin with, and its whole length.
 
 ghost use Rattle.std.specs.Prelude.{◌≡◌, ◌+◌, ◌<◌, ◌≤◌, ◌^◌, ◌++◌, length, take, drop, IfOk, IfSome};
 ghost use Rattle.rmt_wire.specs.Lent.{plain_wanted, lent_reply};
@@ -16,8 +14,6 @@ use crate::number::{Place, number_front};
 use crate::reply::Reply;
 use crate::reply::wanted::Wanted;
 
-/// Returns how many bytes come before the first line feed, or the number of all bytes if there is
-/// none.
 pub fn text_len(bytes: &[u8]) -> usize
     ensures value { result ≡ spec.text_len bytes.now }
     ensures within { result ≤ length bytes.now }
@@ -25,8 +21,6 @@ pub fn text_len(bytes: &[u8]) -> usize
     find_byte(bytes, b'\n').unwrap_or(bytes.len())
 }
 
-/// Returns the error whose text is at the front of `text`, and the length of the whole reply. The
-/// reply's first line has `len` bytes. Returns None if the text has no line feed yet.
 fn error_at(number: u32, len: usize, text: &[u8]) -> Option<(Reply<'_>, usize)>
     requires { len + length text.now < 2 ^ 64 }
     ensures value { lent_reply (Ok result) ≡ spec.error_at number len text.now }
@@ -40,8 +34,6 @@ fn error_at(number: u32, len: usize, text: &[u8]) -> Option<(Reply<'_>, usize)>
     Some((Reply::Error { number, text }, len + end + 1))
 }
 
-/// Returns the reply whose data are the first `count` bytes, and the length of the whole reply. The
-/// reply's line has `len` bytes. Returns None if there are fewer bytes.
 fn data_at(count: u32, len: usize, bytes: &[u8]) -> Option<(Reply<'_>, usize)>
     requires { len + length bytes.now < 2 ^ 64 }
     ensures value { lent_reply (Ok result) ≡ spec.data_at count len bytes.now }
@@ -55,8 +47,6 @@ fn data_at(count: u32, len: usize, bytes: &[u8]) -> Option<(Reply<'_>, usize)>
     Some((Reply::Data { bytes }, len + size))
 }
 
-/// Reads a reply with a number from the bytes after its `A`. Returns it and its whole length, or
-/// None if it is not complete.
 #[tactic(auto, unfolding(crate::specs::ReplyFront::done_front))]
 fn number_done(bytes: &[u8]) -> Result<Option<(Reply<'_>, usize)>, WireFault>
     ensures value { lent_reply result ≡ spec.done_front kinds.Wanted.Number bytes.now }
@@ -68,8 +58,6 @@ fn number_done(bytes: &[u8]) -> Result<Option<(Reply<'_>, usize)>, WireFault>
     Ok(Some((Reply::Done { number }, digits + 2)))
 }
 
-/// Reads a reply with at most `most` bytes of data from the bytes after its `A`. Returns it and its
-/// whole length, or None if it is not complete.
 #[tactic(auto, unfolding(crate::specs::ReplyFront::done_front))]
 fn data_done(bytes: &[u8], most: u32) -> Result<Option<(Reply<'_>, usize)>, WireFault>
     ensures value { lent_reply result ≡ spec.done_front (kinds.Wanted.DataUpTo most) bytes.now }
@@ -81,8 +69,6 @@ fn data_done(bytes: &[u8], most: u32) -> Result<Option<(Reply<'_>, usize)>, Wire
     Ok(data_at(count, digits + 2, &bytes[digits + 1..]))
 }
 
-/// Reads a reply of the wanted kind from the bytes after its `A`. Returns it and its whole length,
-/// or None if it is not complete.
 fn done_front(bytes: &[u8], wanted: Wanted) -> Result<Option<(Reply<'_>, usize)>, WireFault>
     ensures value { lent_reply result ≡ spec.done_front (plain_wanted wanted) bytes.now }
     ensures within { IfOk result (λ o. IfSome o (λ r. r.1 ≤ length bytes.now + 1)) }
@@ -93,8 +79,6 @@ fn done_front(bytes: &[u8], wanted: Wanted) -> Result<Option<(Reply<'_>, usize)>
     }
 }
 
-/// Reads an error from the bytes after its `E`. Returns it and its whole length, or None if it is
-/// not complete.
 #[tactic(auto, unfolding(crate::specs::ReplyFront::error_front))]
 fn error_front(bytes: &[u8]) -> Result<Option<(Reply<'_>, usize)>, WireFault>
     ensures value { lent_reply result ≡ spec.error_front bytes.now }
@@ -106,9 +90,6 @@ fn error_front(bytes: &[u8]) -> Result<Option<(Reply<'_>, usize)>, WireFault>
     Ok(error_at(number, digits + 2, &bytes[digits + 1..]))
 }
 
-/// Returns the reply of the wanted kind, or the error, that the bytes begin with, and its length.
-/// Returns None if the bytes are only a beginning of one. Fails at the first byte that rules out
-/// both.
 #[tactic(auto, unfolding(crate::specs::ReplyFront::reply_front))]
 pub fn reply_front(bytes: &[u8], wanted: Wanted) -> Result<Option<(Reply<'_>, usize)>, WireFault>
     ensures value { lent_reply result ≡ spec.reply_front (plain_wanted wanted) bytes.now }
@@ -122,8 +103,7 @@ pub fn reply_front(bytes: &[u8], wanted: Wanted) -> Result<Option<(Reply<'_>, us
     }
 }
 
-/// Returns the index and the number of the bytes of an error's text that are not kept. The `bytes`
-/// are those after its `E`.
+/// Like `surplus`, for the bytes after an `E`.
 fn surplus_behind(bytes: &[u8]) -> (usize, usize)
     ensures value { spec.kept_behind (number_front places.Line bytes.now) bytes.now
         ≡ take result.0 bytes.now ++ drop (result.0 + result.1) bytes.now }
@@ -137,8 +117,7 @@ fn surplus_behind(bytes: &[u8]) -> (usize, usize)
     (digits + 1 + kept, len - kept)
 }
 
-/// Returns the index and the number of the bytes of an error's text that are not kept. For other
-/// bytes the number is 0.
+/// Returns the index and the number of the bytes of an error's text that are not kept.
 #[tactic(auto, unfolding(crate::specs::ReplyFront::kept_of))]
 pub fn surplus(bytes: &[u8]) -> (usize, usize)
     ensures value { spec.kept_of bytes.now ≡ take result.0 bytes.now ++ drop (result.0 + result.1) bytes.now }

@@ -1,4 +1,4 @@
-//! Splits a reply into a head and data, as it is sent.
+//! Splits a reply into head and data.
 
 ghost use Rattle.std.specs.Prelude.{◌≡◌, ◌+◌, ◌≤◌, ◌++◌, length};
 ghost use Rattle.rmt_wire.specs.Lent.{plain_reply};
@@ -8,7 +8,7 @@ use crate::limits::{LINE_LIMIT, NUMBER_LIMIT};
 use crate::reply::Reply;
 use crate::short_text::{ShortText, numbered};
 
-/// Returns the head of a reply, and the data after it. An error is all head.
+/// An error is all head.
 pub fn parts<'a>(reply: &Reply<'a>) -> (ShortText, &'a [u8])
     requires { ReplyHasSpelling (plain_reply reply.now) }
     ensures text { result.0 ++ result.1.now ≡ reply_text (plain_reply reply.now) }
@@ -21,7 +21,6 @@ pub fn parts<'a>(reply: &Reply<'a>) -> (ShortText, &'a [u8])
     }
 }
 
-/// Returns the whole text of an error.
 fn error_lines(number: u32, text: &[u8]) -> ShortText
     requires number { number ≤ NUMBER_LIMIT }
     requires line { length text.now ≤ LINE_LIMIT }

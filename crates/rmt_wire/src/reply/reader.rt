@@ -1,6 +1,4 @@
 //! A reader of replies.
-//!
-//! The kind of a reply is a number or data.
 
 ghost use Rattle.std.specs.Prelude.{◌≡◌, ℕ, ◌+◌, ◌-◌, ◌≤◌, ◌≢◌, ◌↔◌, Option, Some, None, List, [], ◌++◌, length, take, drop, min, IfOk, IfSome, IsTrue};
 ghost use Rattle.rmt_wire.specs.Reply as kinds;
@@ -19,8 +17,6 @@ use bytes::BytesMut;
 use std::alloc::{AllocError, Global};
 use std::marker::Model;
 
-/// Returns the reply of the wanted kind that `unread` begins with, and how many of the bytes kept
-/// it takes. Returns None if it is not complete. If no reply is wanted, any byte is `TooMuchData`.
 #[tactic(auto, using(crate::proofs::ReplyNexts::some_faulty, crate::proofs::ReplyNexts::none_faulty, crate::proofs::ReplyNexts::some_kept))]
 fn first_reply(
     unread: &[u8],
@@ -39,8 +35,7 @@ fn first_reply(
     }
 }
 
-/// Removes what is not kept of the bytes from index `start` on. If a reply is wanted, that is an
-/// error's text after its first 255 bytes.
+/// Removes the end of an error's text that is too long.
 fn cut(buffer: &mut BytesMut, start: usize, wanted: Option<Wanted>)
     requires { start ≤ length buffer.old.items }
     ensures kept { drop start buffer.new.items ≡ kept_while (plain_wanted_if_some wanted) (drop start buffer.old.items) }
@@ -54,13 +49,11 @@ fn cut(buffer: &mut BytesMut, start: usize, wanted: Option<Wanted>)
     }
 }
 
-/// Splits a stream of bytes into replies (rmt(8)), each of the kind that is waited for, whatever
-/// pieces the stream comes in. It reserves `READER_LIMIT` bytes once, and lends the data and the
-/// text of a reply from there.
+/// Splits a stream of bytes into replies (rmt(8)), each of the kind that is waited for. Lends their
+/// data or text from its buffer of `READER_LIMIT` bytes.
 ///
-/// A client calls `expect` with what it waits for, sends its request, and pushes the bytes that
-/// come, or receives them by `fill`. It calls `next` until that returns the reply. Contracts see
-/// what the reader waits for, and the bytes that it keeps.
+/// A client calls `expect`, sends its request, pushes or fills in the bytes that come, and calls
+/// `next` until that returns the reply.
 #[derive(Drop)]
 pub struct ReplyReader {
     buffer: BytesMut,
@@ -88,10 +81,9 @@ impl ReplyReader {
     ghost use Rattle.std.specs.Io.BufRead.{Rests};
     ghost use Rattle.rmt_wire.specs.contracts.reply.reader.ReplyReader.{the_row};
 
-    /// Returns a reader that holds no bytes and waits for no reply. It reserves `READER_LIMIT`
-    /// bytes (262,156) once. Fails only if this allocation fails.
+    /// Returns an empty reader that waits for no reply. Fails only if the allocation of
+    /// `READER_LIMIT` bytes fails.
     pub fn new(alloc: Global) -> Result<ReplyReader, AllocError>
-        // The new reader waits for no reply, holds no bytes, and has room for 262,156 bytes.
         ensures { IfOk result (λ r. ReplyUnread r None []) }
     {
         Ok(ReplyReader {
@@ -104,7 +96,6 @@ impl ReplyReader {
     /// Returns whether the reader has no unread bytes.
     #[tactic(auto, using(crate::proofs::ReplyNexts::empty_at))]
     pub fn is_empty(&self) -> bool
-        // `is_empty` returns true if and only if the reader has no unread bytes.
         ensures value { (wanted : Option kinds.Wanted) (bytes : List ℕ) →
             ReplyUnread self.now wanted bytes → (IsTrue result ↔ (bytes ≡ [])) }
         ensures seen { IsTrue result → ReplyUnread self.now self.now.wanted [] }
@@ -112,33 +103,25 @@ impl ReplyReader {
         self.buffer.len() == self.start
     }
 
-    /// Returns how many bytes `push` can take now. The text of an error that is waited for takes no
-    /// room after its first 255 bytes.
+    /// Returns how many bytes `push` can take now. The text of an error takes no room after its
+    /// first 255 bytes.
     pub fn room(&self) -> usize
-        // `room` returns how many bytes `push` can take now. While the reader waits for a reply, an
-        // error's text takes room for at most 255 bytes.
         ensures { (wanted : Option kinds.Wanted) (bytes : List ℕ) →
             ReplyUnread self.now wanted bytes → result + reply_taken_of wanted bytes ≡ READER_LIMIT }
     {
         READER_LIMIT - (self.buffer.len() - self.start)
     }
 
-    /// Sets which kind of reply the reader waits for. The reply is to begin with the next byte that
-    /// is pushed.
+    /// Sets which kind of reply the reader waits for, from the next byte on. Nothing may be waited
+    /// for yet: `next` has returned the last reply, if any. At most `RECORD_LIMIT` bytes of data
+    /// may be waited for.
     ///
-    /// Nothing may be waited for yet: `next` has returned the last reply that was, if any. At most
-    /// `RECORD_LIMIT` bytes of data may be waited for.
-    ///
-    /// This clears no fault. If bytes were pushed while nothing was waited for, still nothing is
-    /// waited for after the call, and `next` returns `TooMuchData` until `clear`.
+    /// This clears no fault. If bytes were pushed while nothing was waited for, `next` returns
+    /// `TooMuchData` until `clear`.
     pub fn expect(&mut self, wanted: Wanted)
         requires given { self.old.wanted ≡ None }
         requires within { IsWithin (plain_wanted wanted) }
-        // If no byte was unread before the call, the reader waits for a reply of the given kind
-        // after the call.
         ensures waits { ReplyUnread self.old None [] → ReplyUnread self.new (Some (plain_wanted wanted)) [] }
-        // `expect` clears no fault. If bytes came while the reader waited for no reply, `expect`
-        // does not make the reader wait for a reply.
         ensures for_good { (bytes : List ℕ) → bytes ≢ [] → ReplyUnread self.old None bytes → ReplyUnread self.new None bytes }
     {
         if self.is_empty() {
@@ -146,10 +129,9 @@ impl ReplyReader {
         }
     }
 
-    /// Discards all unread bytes and ends the wait for a reply, so that the reader can serve a new
-    /// connection. The reader keeps its buffer and allocates nothing.
+    /// Discards all unread bytes and ends the wait for a reply, for a new connection. Allocates
+    /// nothing.
     pub fn clear(&mut self)
-        // After `clear` the reader waits for no reply, and has no unread bytes.
         ensures { ReplyUnread self.new None [] }
     {
         self.buffer.clear();
@@ -157,12 +139,8 @@ impl ReplyReader {
         self.wanted = None;
     }
 
-    /// Takes as many bytes of `piece` as fit into the reader, and returns how many. If an error is
-    /// waited for and comes, only the first 255 bytes of its text are kept.
+    /// Takes as many bytes of `piece` as fit, and returns how many.
     pub fn push(&mut self, piece: &[u8]) -> usize
-        // `push` takes the whole piece if the piece fits into the reader. Otherwise `push` takes as
-        // many bytes from the front of the piece as fit. The bytes that `push` took are unread
-        // afterwards. The reader keeps at most 262,156 bytes.
         ensures count { (wanted : Option kinds.Wanted) (bytes : List ℕ) →
             ReplyUnread self.old wanted bytes → result ≡ min (length piece.now) (READER_LIMIT - reply_taken_of wanted bytes) }
         ensures unread { (wanted : Option kinds.Wanted) (bytes : List ℕ) →
@@ -178,20 +156,12 @@ impl ReplyReader {
         count
     }
 
-    /// Calls `receive` once, with a buffer that is all the room of the reader. `receive` puts
-    /// bytes at the front of the buffer and returns how many. Returns how many came: what `receive`
-    /// returned, but at most the length of the buffer.
-    ///
-    /// The bytes that came are unread then, as if pushed, and they are not copied. The bytes that
-    /// were unread are moved to the front first.
+    /// Calls `receive` once, with a buffer: all the room of the reader. `receive` puts bytes at its
+    /// front and returns how many. Returns how many came, at most the room. They are unread then,
+    /// as if pushed, and are not copied.
     pub fn fill<F: FnMut(&mut [u8]) -> usize>(&mut self, receive: &mut F) -> usize
         requires { F.IsAlwaysCallable receive.old }
-        // `fill` calls `receive` once, with a buffer as long as `room` says. `fill` returns what
-        // `receive` returned, but at most the length of the buffer. So many bytes from the front of
-        // the buffer are unread afterwards. They follow the earlier unread bytes, as if they had
-        // been pushed.
         ensures came { IsReplyFilled (F.step receive.old) receive.new self.old self.new result }
-        // The reader keeps at most 262,156 bytes.
         ensures limit { length self.new.kept ≤ READER_LIMIT }
     {
         remove(&mut self.buffer, 0, self.start);
@@ -203,13 +173,9 @@ impl ReplyReader {
     }
 
     /// Returns the reply that `next` would return, and how many unread bytes follow it. Returns
-    /// None or fails if `next` would. The reply stays in the reader, so it can be lent again.
+    /// None or fails if `next` would. The reply stays in the reader.
     pub fn peek(&self) -> Result<Option<(Reply<'_>, usize)>, WireFault>
-        // `peek` returns what `next` would return. Beside the reply, `peek` returns how many bytes
-        // would be unread after the call of `next`.
         ensures next { IsPeeked self.now result }
-        // Once `peek` has returned a fault, every later call of `next` returns the same fault until
-        // `clear` is called. It does not matter which bytes are pushed in between.
         ensures for_good { ReplyStaysFaulty self.now (plain_reply_front_result result) }
     {
         let unread = &self.buffer.as_slice()[self.start..];
@@ -219,26 +185,15 @@ impl ReplyReader {
         }
     }
 
-    /// Returns the reply that the reader waits for. Lends the reply's data or the first 255 bytes
-    /// of an error's text. After that, nothing is waited for. Returns None if the bytes pushed so
-    /// far are only a beginning of the reply; then there is room for more. Also returns None if
-    /// nothing is waited for and no byte was pushed.
+    /// Returns the reply that is waited for, and lends its data or the first 255 bytes of an
+    /// error's text. Then nothing is waited for. Returns None if the unread bytes are only a
+    /// beginning of the reply; then there is room for more. Also returns None if nothing is waited
+    /// for and no byte came.
     ///
-    /// Fails at the first byte that rules out every reply, and returns the same fault until
-    /// `clear`. The fault is `NotAReply`, `BadNumber`, or `TooMuchData` for a count of data that is
-    /// more than was wanted. If nothing is waited for, any byte is `TooMuchData`. If no reply is
-    /// returned, the reader is unchanged.
+    /// Fails at the first byte that rules out every reply, and with the same fault until `clear`.
+    /// If no reply is returned, the reader is unchanged.
     pub fn next(&mut self) -> Result<Option<Reply<'_>>, WireFault>
-        // `next` returns the reply that the reader waits for. If the reply is still incomplete,
-        // `next` returns `None`, and the reader has room for more bytes. If the unread bytes cannot
-        // be the start of a reply, `next` returns the fault of the first byte that makes a reply
-        // impossible. If the reader waits for no reply and a byte is unread, the fault is
-        // `TooMuchData`.
-        //
-        // If `next` returns no reply, the reader is unchanged (field `unchanged` of `ReplyIsNext`).
         ensures* rests { sem 𝓛 (Rests the_row self.entry (λ new. ReplyIsNext self.old (plain_reply_result result) new)) }
-        // Once `next` has returned a fault, every later call of `next` returns the same fault until
-        // `clear` is called. It does not matter which bytes are pushed in between.
         ensures for_good { ReplyStaysFaulty self.old (plain_reply_result result) }
     {
         let start = self.start;

@@ -1,4 +1,4 @@
-//! Appends a request to a vector, as it is sent.
+//! Appends a request to a vector.
 
 ghost use Rattle.std.specs.Prelude.{◌≡◌, ℕ, ◌+◌, ◌<◌, ◌≤◌, List, ◌++◌, length, OnOk, OnErr};
 ghost use Rattle.std.specs.Vec.{vec_capacity, vec_len};
@@ -11,52 +11,36 @@ use crate::request::Request;
 use crate::short_text::{ShortText, numbered, push_number};
 use std::alloc::AllocError;
 
-/// Appends to a buffer the bytes that are sent for a request. The request's numbers have no leading
-/// zeros, a mode is its number alone, and a close has no text. A dropped write is appended as its
-/// line alone.
+/// Appends the bytes that are sent for a request. Numbers have no leading zeros, a mode is its
+/// number alone, and a close has no text. A dropped write is its line alone.
 ///
-/// The request must have a spelling. Its device is one line of at most `LINE_LIMIT` bytes, and its
-/// numbers are at most `NUMBER_LIMIT`. A write has at most `RECORD_LIMIT` bytes, and a dropped
-/// write has more.
+/// The device must be one line of at most `LINE_LIMIT` bytes, and each number at most
+/// `NUMBER_LIMIT`. A write has at most `RECORD_LIMIT` bytes, and a dropped write has more.
 ///
-/// Fails only if `out` has less spare capacity than the text takes and an allocation fails. Then
-/// `out` and its capacity are unchanged.
+/// Fails only if `out` lacks capacity and an allocation fails. Then `out` and its capacity are
+/// unchanged.
 #[tactic(auto, using(crate::proofs::Spelling::request_text_spells))]
 pub fn push_request(out: &mut Vec<u8>, request: &Request<'_>) -> Result<(), AllocError>
     requires { HasSpelling (plain_request request.now) }
-    // `push_request` appends the bytes that are sent for the request. For a write of more than
-    // 262,144 bytes, `push_request` appends only the write's first line.
     ensures appended { OnOk result (out.new.items ≡ out.old.items ++ request_text (plain_request request.now)) }
-    // If `push_request` fails, the buffer and its capacity are unchanged.
     ensures unchanged { OnErr result ((out.new.items ≡ out.old.items) × (vec_capacity out.new ≡ vec_capacity out.old)) }
-    // `push_request` fails only if the buffer has less spare capacity than the request takes.
     ensures full { OnErr result (vec_capacity out.old < vec_len out.old + length (request_text (plain_request request.now))) }
-    // The appended bytes spell the request.
     ensures spelled { IsTextOf (request_text (plain_request request.now)) (plain_request request.now) }
 {
     let (lines, data) = parts(request);
     push_text(out, lines.as_slice(), data)
 }
 
-/// Appends the first line of a write request of rmt(8). The record has `count` bytes, at most
-/// `RECORD_LIMIT`. Reserves room for the bytes of the record, which the caller appends next.
-///
-/// Fails only if `out` has less spare capacity than the line and the bytes take and an allocation
-/// fails. Then `out` and its capacity are unchanged.
+/// Appends the line of a write of `count` bytes, at most `RECORD_LIMIT`. Reserves room for these
+/// bytes, which the caller appends next. Fails as `push_request` does.
 pub fn push_write_line(out: &mut Vec<u8>, count: usize) -> Result<(), AllocError>
     requires { count ≤ RECORD_LIMIT }
-    // `push_write_line` appends the first line that is sent for a write of `count` bytes.
     ensures begun { OnOk result ((bytes : List ℕ) → length bytes ≡ count →
         out.new.items ++ bytes ≡ out.old.items ++ request_text (PlainRequest.Write bytes)) }
-    // If `push_write_line` succeeds, the buffer has spare capacity for `count` more bytes.
     ensures room { OnOk result (vec_len out.new + count ≤ vec_capacity out.new) }
-    // `push_write_line` fails only if the buffer has less spare capacity than the line and `count`
-    // more bytes take. If `push_write_line` fails, the buffer and its capacity are unchanged.
     ensures unchanged { OnErr result ((out.new.items ≡ out.old.items) × (vec_capacity out.new ≡ vec_capacity out.old)) }
     ensures full { OnErr result ((bytes : List ℕ) → length bytes ≡ count →
         vec_capacity out.old < vec_len out.old + length (request_text (PlainRequest.Write bytes))) }
-    // The appended line, followed by any `count` bytes, spells a write request with these bytes as
-    // its data.
     ensures spelled { (bytes : List ℕ) → length bytes ≡ count →
         IsTextOf (request_text (PlainRequest.Write bytes)) (PlainRequest.Write bytes) }
 {
@@ -65,7 +49,6 @@ pub fn push_write_line(out: &mut Vec<u8>, count: usize) -> Result<(), AllocError
     out.extend_from_slice(line.as_slice())
 }
 
-/// Returns the lines of a request, and the data after them.
 fn parts<'a>(request: &Request<'a>) -> (ShortText, &'a [u8])
     requires { HasSpelling (plain_request request.now) }
     ensures text { result.0 ++ result.1.now ≡ request_text (plain_request request.now) }
@@ -81,7 +64,6 @@ fn parts<'a>(request: &Request<'a>) -> (ShortText, &'a [u8])
     }
 }
 
-/// Returns the lines of an open.
 fn open_lines(device: &[u8], mode: u32) -> ShortText
     requires device { length device.now ≤ LINE_LIMIT }
     requires mode { mode ≤ NUMBER_LIMIT }
@@ -96,7 +78,6 @@ fn open_lines(device: &[u8], mode: u32) -> ShortText
     lines
 }
 
-/// Returns the lines of an operation.
 fn op_lines(op: u32, count: u32) -> ShortText
     requires op { op ≤ NUMBER_LIMIT }
     requires count { count ≤ NUMBER_LIMIT }

@@ -9,8 +9,6 @@ use crate::limits::RECORD_LIMIT;
 use crate::request::Request;
 use crate::request::head::{Head, head_of};
 
-/// Returns the write whose line has `len` bytes, and its whole length. It is a `WriteDropped` if
-/// `count` is above `RECORD_LIMIT`. Returns None if its data are not complete.
 pub fn write_at(bytes: &[u8], count: u32, len: usize) -> Option<(Request<'_>, usize)>
     requires { len ≤ length bytes.now }
     ensures value { lent_front (Ok result) ≡ spec.written_at count len bytes.now }
@@ -28,8 +26,6 @@ pub fn write_at(bytes: &[u8], count: u32, len: usize) -> Option<(Request<'_>, us
     Some((Request::Write { bytes }, len + size))
 }
 
-/// Returns the request that begins with the lines `head`, and its whole length. Returns None if its
-/// data are not complete.
 fn request_at(bytes: &[u8], head: Head) -> Option<(Request<'_>, usize)>
     requires { spec.FitsIn (length bytes.now) head }
     ensures value { lent_front (Ok result) ≡ spec.request_at bytes.now head }
@@ -47,8 +43,6 @@ fn request_at(bytes: &[u8], head: Head) -> Option<(Request<'_>, usize)>
     }
 }
 
-/// Returns the request that the bytes begin with, and its length. Returns None if the bytes are
-/// only a beginning of one. Fails at the first byte that rules out every request.
 #[tactic(auto, unfolding(crate::specs::RequestFront::front_of))]
 pub fn request_front(bytes: &[u8]) -> Result<Option<(Request<'_>, usize)>, WireFault>
     ensures value { lent_front result ≡ spec.front_of bytes.now }

@@ -1,4 +1,5 @@
-//! Reads the lines that a request begins with.
+//! Reads the lines that a request begins with. Each function gets the bytes after those read
+//! before, and returns None if a line is not complete.
 
 ghost use Rattle.std.specs.Prelude.{◌≡◌, ◌+◌, ◌^◌, ◌<◌, length, IfOk, IfSome};
 ghost use Rattle.rmt_wire.specs.RequestFront as spec;
@@ -7,8 +8,8 @@ use crate::fault::WireFault;
 use crate::number::{Place, number_front};
 use crate::request::line::line_front;
 
-/// The lines of a request. `len` is how many bytes they have, with the letter, and `device` how
-/// many bytes the name of the device has.
+/// The lines of a request. `len` is how many bytes they have, and `device` how many the device's
+/// name has.
 #[derive(Clone, Copy)]
 pub enum Head {
     Open {
@@ -34,7 +35,6 @@ pub enum Head {
     },
 }
 
-/// Reads the lines of an open from the bytes after its `O`. Returns None if a line is not complete.
 #[tactic(auto, unfolding(crate::specs::RequestFront::open_head))]
 fn open_head(bytes: &[u8]) -> Result<Option<Head>, WireFault>
     ensures value { result ≡ spec.open_head bytes.now }
@@ -46,8 +46,6 @@ fn open_head(bytes: &[u8]) -> Result<Option<Head>, WireFault>
     mode_head(device, &bytes[device + 1..])
 }
 
-/// Reads the mode line of an open from the bytes after the device line. The name of the device has
-/// `device` bytes.
 #[tactic(auto, unfolding(crate::specs::RequestFront::mode_head))]
 fn mode_head(device: usize, line: &[u8]) -> Result<Option<Head>, WireFault>
     requires { device + length line.now + 2 < 2 ^ 64 }
@@ -64,7 +62,6 @@ fn mode_head(device: usize, line: &[u8]) -> Result<Option<Head>, WireFault>
     Ok(Some(Head::Open { device, mode, len }))
 }
 
-/// Reads the line of a close from the bytes after its `C`. Returns None if it is not complete.
 #[tactic(auto, unfolding(crate::specs::RequestFront::close_head))]
 fn close_head(bytes: &[u8]) -> Result<Option<Head>, WireFault>
     ensures value { result ≡ spec.close_head bytes.now }
@@ -76,7 +73,6 @@ fn close_head(bytes: &[u8]) -> Result<Option<Head>, WireFault>
     Ok(Some(Head::Close { len: end + 2 }))
 }
 
-/// Reads the line of a write from the bytes after its `W`. Returns None if it is not complete.
 #[tactic(auto, unfolding(crate::specs::RequestFront::write_head))]
 fn write_head(bytes: &[u8]) -> Result<Option<Head>, WireFault>
     ensures value { result ≡ spec.write_head bytes.now }
@@ -89,7 +85,6 @@ fn write_head(bytes: &[u8]) -> Result<Option<Head>, WireFault>
     Ok(Some(Head::Write { count, len }))
 }
 
-/// Reads the line of a read from the bytes after its `R`. Returns None if it is not complete.
 #[tactic(auto, unfolding(crate::specs::RequestFront::read_head))]
 fn read_head(bytes: &[u8]) -> Result<Option<Head>, WireFault>
     ensures value { result ≡ spec.read_head bytes.now }
@@ -102,8 +97,6 @@ fn read_head(bytes: &[u8]) -> Result<Option<Head>, WireFault>
     Ok(Some(Head::Read { count, len }))
 }
 
-/// Reads the lines of an operation from the bytes after its `I`. Returns None if a line is not
-/// complete.
 #[tactic(auto, unfolding(crate::specs::RequestFront::op_head))]
 fn op_head(bytes: &[u8]) -> Result<Option<Head>, WireFault>
     ensures value { result ≡ spec.op_head bytes.now }
@@ -115,8 +108,7 @@ fn op_head(bytes: &[u8]) -> Result<Option<Head>, WireFault>
     count_head(op, first, &bytes[first + 1..])
 }
 
-/// Reads the count of an operation from the bytes after the operation's number, which has `first`
-/// digits.
+/// The operation's number has `first` digits.
 #[tactic(auto, unfolding(crate::specs::RequestFront::count_head))]
 fn count_head(op: u32, first: usize, line: &[u8]) -> Result<Option<Head>, WireFault>
     requires { first + length line.now + 2 < 2 ^ 64 }
@@ -130,8 +122,6 @@ fn count_head(op: u32, first: usize, line: &[u8]) -> Result<Option<Head>, WireFa
     Ok(Some(Head::Op { op, count, len }))
 }
 
-/// Returns the lines of the request that the bytes begin with. Returns None if the lines are not
-/// complete. Fails at the first byte that rules out every request.
 #[tactic(auto, unfolding(crate::specs::RequestFront::head_of, crate::specs::RequestFront::letter_head))]
 pub fn head_of(bytes: &[u8]) -> Result<Option<Head>, WireFault>
     ensures value { result ≡ spec.head_of bytes.now }

@@ -6,8 +6,8 @@ ghost use Rattle.rmt_wire.specs.RequestFront as spec;
 use crate::fault::WireFault;
 use crate::limits::LINE_LIMIT;
 
-/// Returns how many bytes the line has that the bytes begin with. Its line feed is the next byte.
-/// Returns None if there is no line feed yet. Fails if the line has more than `LINE_LIMIT` bytes.
+/// Returns how many bytes come before the line feed, or None if it has not come. Fails after
+/// `LINE_LIMIT` bytes.
 pub fn line_front(bytes: &[u8]) -> Result<Option<usize>, WireFault>
     ensures value { result ≡ spec.line_front bytes.now }
     ensures within { IfOk result (λ o. IfSome o (λ n. n < length bytes.now)) }

@@ -1,6 +1,4 @@
 //! A reader of requests.
-//!
-//! The front of the reader is the first of the bytes that it keeps.
 
 ghost use Rattle.std.specs.Prelude.{◌≡◌, ℕ, ◌+◌, ◌-◌, ◌≤◌, ◌<◌, ◌↔◌, List, [], ◌++◌, length, take, drop, min, IfOk, IfSome, IsTrue};
 ghost use Rattle.rmt_wire.specs.RequestReader as spec;
@@ -24,9 +22,6 @@ mod stream;
 
 pub use stream::StreamFault;
 
-/// Returns how many of the `len` unread bytes can be discarded, because they are data of a dropped
-/// write at the front. That write has this line, and `dropped` bytes of its data were discarded
-/// before.
 fn discardable(line: Option<(usize, u32)>, len: usize, dropped: u32) -> usize
     requires within { IfSome line (λ line. line.0 ≤ len) }
     requires dropped { IsDropped (if_dropped line) dropped }
@@ -39,8 +34,7 @@ fn discardable(line: Option<(usize, u32)>, len: usize, dropped: u32) -> usize
     }
 }
 
-/// Discards the data of a dropped write at the front, as far as they came. Sets `line` if the
-/// write's line is complete, and adds to `dropped` how many bytes were discarded.
+/// Discards the data of a dropped write that is the first unread request.
 #[tactic(auto, using(std::proofs::lemmas::List::take_rest, crate::proofs::WriteLines::dropped_is, crate::proofs::Nexts::none_let_go, crate::proofs::Dropped::within_some))]
 fn discard_data(
     buffer: &mut BytesMut,
@@ -67,9 +61,6 @@ fn discard_data(
     *dropped += discardable as u32;
 }
 
-/// Returns the request that `unread` begins with, and how many of the bytes kept it takes. Returns
-/// None if it is not complete. If the request is a write with a complete line, `line` is that line.
-/// `dropped` bytes of its data were discarded.
 fn first_request(
     unread: &[u8],
     line: Option<(usize, u32)>,
@@ -95,17 +86,15 @@ fn first_request(
     Ok(Some((Request::WriteDropped { count }, len + left)))
 }
 
-/// Splits a stream of bytes into requests, whatever pieces it comes in. It reserves `READER_LIMIT`
-/// bytes once. It keeps there what is pushed or read, and lends the data of a request from there.
-///
-/// Contracts see the bytes that it keeps, and how many data of a dropped write it has discarded.
+/// Splits a stream of bytes into requests, and lends their data from its buffer of `READER_LIMIT`
+/// bytes.
 #[derive(Drop)]
 pub struct RequestReader {
     buffer: BytesMut,
     start: usize,
-    // The length of the line and the count of the write at the front, once its line was read.
+    // The length of the line and the count of a write that is unread first, once its line was read.
     line: Option<(usize, u32)>,
-    // How many bytes of that write's data were discarded, if it is a dropped write.
+    // How many bytes of its data were discarded, if it is a dropped write.
     dropped: u32,
 }
 
@@ -130,10 +119,8 @@ impl RequestReader {
     ghost use Rattle.std.specs.Io.BufRead.{Rests};
     ghost use Rattle.rmt_wire.specs.contracts.request.reader.RequestReader.{the_row};
 
-    /// Returns a reader that holds no bytes. It reserves `READER_LIMIT` bytes (262,156) once. Fails
-    /// only if this allocation fails.
+    /// Returns an empty reader. Fails only if the allocation of `READER_LIMIT` bytes fails.
     pub fn new(alloc: Global) -> Result<RequestReader, AllocError>
-        // The new reader holds no bytes and has room for 262,156 bytes.
         ensures { IfOk result (λ r. Unread r []) }
     {
         Ok(RequestReader {
@@ -144,24 +131,19 @@ impl RequestReader {
         })
     }
 
-    /// Returns whether the reader has no unread bytes. If so, the reader is in the state of a new
-    /// one.
+    /// Returns whether the reader has no unread bytes. Then it is as a new one.
     #[tactic(auto, using(crate::proofs::Nexts::empty_at))]
     pub fn is_empty(&self) -> bool
-        // `is_empty` returns true if and only if the reader has no unread bytes.
         ensures value { (bytes : List ℕ) → Unread self.now bytes → (IsTrue result ↔ (bytes ≡ [])) }
         ensures seen { IsTrue result → Unread self.now [] }
     {
         self.buffer.len() == self.start
     }
 
-    /// Returns how many bytes `push` can take now. The data of a dropped write take no room once
-    /// `next` has returned every request before it.
+    /// Returns how many bytes `push` can take now. Data of a dropped write take no room once every
+    /// request before it was returned.
     #[tactic(auto, using(std::proofs::lemmas::List::take_rest, crate::proofs::WriteLines::dropped_is, crate::proofs::Nexts::room_at))]
     pub fn room(&self) -> usize
-        // `room` returns how many bytes `push` can take now. A write of more than 262,144 bytes is
-        // too long to keep. If the unread bytes begin with a write that is too long, the write's
-        // data take no room.
         ensures { (bytes : List ℕ) → Unread self.now bytes → result + taken_of bytes ≡ READER_LIMIT }
     {
         let unread = &self.buffer.as_slice()[self.start..];
@@ -169,17 +151,11 @@ impl RequestReader {
         READER_LIMIT - (unread.len() - discardable(line, unread.len(), self.dropped))
     }
 
-    /// Takes as many bytes of `piece` as fit into the reader, and returns how many.
+    /// Takes as many bytes of `piece` as fit, and returns how many.
     #[tactic(auto, using(crate::proofs::Dropped::push_dropped, crate::proofs::WriteLines::known_pushed, crate::proofs::Dropped::push_unread))]
     pub fn push(&mut self, piece: &[u8]) -> usize
-        // `push` takes the whole piece if the piece fits into the reader. Otherwise `push` takes as
-        // many bytes from the front of the piece as fit. `push` returns how many bytes it took.
         ensures count { (bytes : List ℕ) → Unread self.old bytes → result ≡ min (length piece.now) (READER_LIMIT - taken_of bytes) }
-        // The bytes that `push` took are unread afterwards.
         ensures unread { (bytes : List ℕ) → Unread self.old bytes → Unread self.new (bytes ++ take result piece.now) }
-        // Suppose that the bytes that entered the reader are the bytes of the requests that `next`
-        // has returned, in order, and then the unread bytes. `push` keeps this true. The reader
-        // keeps at most 262,156 bytes.
         ensures given { (pushed : List ℕ) (requests : List PlainRequest) →
             IsGiven self.old pushed requests → IsGiven self.new (pushed ++ take result piece.now) requests }
         ensures limit { length self.new.kept ≤ READER_LIMIT }
@@ -203,24 +179,13 @@ impl RequestReader {
         count
     }
 
-    /// Returns the next request of the stream, and lends the request's data. Returns None if the
-    /// bytes pushed so far are only a beginning of one; then there is room for more.
+    /// Returns the next request, and lends its data. Returns None if the unread bytes are only a
+    /// beginning of one; then there is room for more.
     ///
-    /// Fails at the first byte that rules out every request, and returns the same fault at each
-    /// later call. If no request is returned, the reader is unchanged.
+    /// Fails at the first byte that rules out every request, and with the same fault at each later
+    /// call. If no request is returned, the reader is unchanged.
     pub fn next(&mut self) -> Result<Option<Request<'_>>, WireFault>
-        // `next` returns the request that the unread bytes begin with. If this request is still
-        // incomplete, `next` returns `None`, and the reader has room for more bytes. If the unread
-        // bytes cannot be the start of a request, `next` returns the fault of the first byte that
-        // makes a request impossible.
-        //
-        // If `next` returns no request, the reader is unchanged (field `unchanged` of `IsNext`).
-        //
-        // Successive calls of `next` return, in order, the requests that are spelled by the bytes
-        // that entered the reader (field `gives_on` of `IsNext`).
         ensures* rests { sem 𝓛 (Rests the_row self.entry (λ new. IsNext self.old (plain_next_result result) new)) }
-        // Once `next` has returned a fault, every later call of `next` returns the same fault. It
-        // does not matter which bytes are pushed in between.
         ensures for_good { StaysFaulty self.old (plain_next_result result) }
     {
         let start = self.start;

@@ -4,7 +4,7 @@ use drives::ListStacks;
 use rmt_wire::{READER_LIMIT, WireFault};
 use std::alloc::Global;
 use tape::Trouble;
-use tape_host::{Answered, Carried, Host, RequestKind, Turn};
+use world_host::{Answered, Carried, Host, RequestKind, Turn};
 
 /// Admits the next connection, if there is memory for it.
 fn join(host: &mut Host) {

@@ -1,6 +1,4 @@
-//! The image of an entry on a medium: how it is read and how it is written.
-//!
-//! `at` is an offset in bytes.
+//! The image of an entry on a medium: how it is read and written. `at` is an offset in bytes.
 
 ghost use Rattle.std.specs.Prelude.{◌≡◌, ◌+◌, ◌*◌, ◌<◌, ◌≤◌, ◌^◌, IfOk, IfSome, IsErr, length, drop, replicate};
 ghost use Rattle.tape.specs.Tape.{IsRecord};
@@ -15,20 +13,17 @@ use crate::entry::{MARK_SIZE, RECORD_FRAME};
 use crate::{Medium, MediumFailed};
 use rmt_wire::RECORD_LIMIT;
 
-/// More bytes than a medium has whose bytes are known, by the law `bounded` of `Medium`.
+/// A medium whose bytes are known has fewer, by the law `bounded` of `Medium`.
 const OFFSET_LIMIT: u64 = 1 << 63;
 
-/// The greatest length of a record, in the type of a length in a record file.
 const LENGTH_LIMIT: u32 = RECORD_LIMIT as u32;
 
 /// How many zero bytes are written at once.
 const ROW: usize = 4096;
 
-/// Returns how many bytes an entry of the given length takes in a record file. A mark has the
-/// length 0.
+/// Returns how many bytes an entry takes in a record file: 4 for a mark, and the length plus 8 for
+/// a record. A mark has the length 0.
 pub fn entry_size(length: u32) -> u64
-    // For length 0, which is the length of a mark, `entry_size` returns 4. For the length of a
-    // record, `entry_size` returns the length plus 8.
     ensures { result ≡ size_by_length length }
 {
     if length == 0 {
@@ -38,7 +33,6 @@ pub fn entry_size(length: u32) -> u64
     }
 }
 
-/// Returns the length that these bytes encode, in little-endian order.
 #[tactic(auto, using(std::proofs::lemmas::Nat::le_bytes_4), unfolding(crate::specs::RecordFile::length_bytes))]
 fn length_in(bytes: [u8; 4]) -> u32
     ensures { length_bytes result ≡ bytes }
@@ -46,7 +40,6 @@ fn length_in(bytes: [u8; 4]) -> u32
     u32::from_le_bytes(bytes)
 }
 
-/// Reads the length at an offset. Returns `None` if fewer than 4 bytes are there.
 fn length_at<M: Medium>(medium: &mut M, at: u64) -> Result<Option<u32>, MediumFailed>
     ensures { AreMediumCalls (medium_kind_of M.Medium)
         (λ old new. (new ≡ old) × IfOk result (BeginsWith (drop at old))) 0 (IsErr result) medium.old medium.new }
@@ -59,21 +52,14 @@ fn length_at<M: Medium>(medium: &mut M, at: u64) -> Result<Option<u32>, MediumFa
     Ok(Some(length_in(bytes)))
 }
 
-/// Returns the length of the entry that begins at offset `at` of a record file, or 0 for a mark.
+/// Returns the length of the entry that begins at offset `at` of a record file. It is 0 for a mark,
+/// and `None` if no whole entry begins there.
 ///
-/// Returns `None` if no whole entry begins there: that is the end. `at` is the offset at which the
-/// entry before it ends, or 0. Reads lengths only, and does not change the medium.
-///
-/// Fails with `MediumFailed` if a call of the medium failed.
+/// `at` is 0, or the offset at which the entry before it ends. Reads lengths only. Fails with
+/// `MediumFailed` if a call of the medium failed.
 pub fn next_length<M: Medium>(medium: &mut M, at: u64) -> Result<Option<u32>, MediumFailed>
-    // If the medium's bytes are known and an entry begins at offset `at`, `next_length` returns the
-    // entry's length, or 0 for a mark. If the bytes are known and the entries end at offset `at`,
-    // `next_length` returns `None`. If the bytes are known, `next_length` does not change them.
-    // `next_length` fails if and only if the medium failed in a call that `next_length` made.
     ensures run { LooksAlong (medium_kind_of M.Medium) at result
         (λ bytes t length. length ≡ first_length t.after) medium.old medium.new }
-    // If `next_length` returns a length, this length is at most 262,144 (`RECORD_LIMIT`), and the
-    // offset `at` is below 2^63.
     ensures limit { IfOk result (λ length. IfSome length (λ n. (n ≤ RECORD_LIMIT) × (at < 2 ^ 63))) }
 {
     if at >= OFFSET_LIMIT {
@@ -97,9 +83,7 @@ pub fn next_length<M: Medium>(medium: &mut M, at: u64) -> Result<Option<u32>, Me
     Ok(Some(length))
 }
 
-/// Returns the length of the entry that ends at an offset, 0 for a mark.
-///
-/// Returns `None` if no entry ends there: that is the beginning.
+/// Returns the length of the entry that ends at an offset, or `None` at the beginning.
 pub(super) fn last_length<M: Medium>(medium: &mut M, at: u64) -> Result<Option<u32>, MediumFailed>
     ensures run { LooksAlong (medium_kind_of M.Medium) at result
         (λ bytes t length. length ≡ first_length (ahead Back t)) medium.old medium.new }
@@ -117,7 +101,6 @@ pub(super) fn last_length<M: Medium>(medium: &mut M, at: u64) -> Result<Option<u
     Ok(Some(length))
 }
 
-/// Appends the image of a record: its length, its bytes, and its length again.
 fn append_record<M: Medium>(medium: &mut M, bytes: &[u8]) -> Result<(), MediumFailed>
     requires { IsRecord bytes.now }
     ensures { AreMediumCalls (medium_kind_of M.Medium)
@@ -127,7 +110,6 @@ fn append_record<M: Medium>(medium: &mut M, bytes: &[u8]) -> Result<(), MediumFa
     medium.append_framed(&length, bytes)
 }
 
-/// Appends `count` zero bytes, one row at a time. `row` contains only zeros.
 fn append_zeros<M: Medium>(medium: &mut M, row: &[u8], count: u64) -> Result<(), MediumFailed>
     requires zeros { row.now ≡ replicate (length row.now) 0 }
     requires some { 0 < length row.now }
@@ -143,10 +125,6 @@ fn append_zeros<M: Medium>(medium: &mut M, row: &[u8], count: u64) -> Result<(),
     Ok(())
 }
 
-/// Writes a record at an offset, with nothing after it.
-///
-/// Fails if the medium fails. The bytes are unchanged then, or they are cut at the offset and
-/// followed by the first bytes of the record's image.
 pub(super) fn put_record<M: Medium>(
     medium: &mut M,
     at: u64,
@@ -160,10 +138,6 @@ pub(super) fn put_record<M: Medium>(
     append_record(medium, bytes)
 }
 
-/// Writes `count` marks at an offset, with nothing after them.
-///
-/// Fails if the medium fails. The bytes are unchanged then, or they are cut at the offset and
-/// followed by the first bytes of the marks' images.
 pub(super) fn put_marks<M: Medium>(medium: &mut M, at: u64, count: u32) -> Result<(), MediumFailed>
     ensures { AreMediumCalls (medium_kind_of M.Medium)
         (IsImageWritten at (replicate (4 * count) 0) result) (4 * count) (IsErr result) medium.old medium.new }

@@ -1,6 +1,4 @@
-//! A walk along a reel, past marks or records.
-//!
-//! `way` is the direction of a walk, and `at` an offset in bytes.
+//! A walk along a reel, past marks or records. `at` is an offset in bytes.
 
 ghost use Rattle.std.specs.Prelude.{◌≡◌, ◌<◌, ◌≤◌, IfOk, IfSome, MatchResult};
 ghost use Rattle.tape.specs.RecordFile.{medium_kind_of};
@@ -11,35 +9,26 @@ ghost use Rattle.tape.specs.declared.file_reel.walk.Way.TheVariants.{Forward, Ba
 use super::image::{entry_size, last_length, next_length};
 use crate::{Medium, MediumFailed, TapeFault};
 
-/// A direction along a reel.
 #[derive(Clone, Copy)]
 pub(super) enum Way {
-    /// Towards the end.
     Forward,
-    /// Towards the beginning.
     Back,
 }
 
-/// An entry that was passed.
 #[derive(Drop)]
 struct PassedEntry {
-    /// The offset at its far side, in the direction of the walk.
     at: u64,
-    /// Whether it is a mark.
     is_mark: bool,
 }
 
-/// The outcome of a walk.
 #[derive(Drop)]
 pub(super) struct Walked {
-    /// The offset at which it ended.
     pub(super) at: u64,
     /// How many marks or records of the count were not met.
     left: u32,
 }
 
 impl Walked {
-    /// Fails with `EndOrMark` if the walk ended before its count was reached.
     pub(super) fn answer(&self) -> Result<(), TapeFault>
         ensures { MatchResult result (λ _. self.now.left ≡ 0) (λ fault. (fault ≡ EndOrMark) × (0 < self.now.left)) }
     {
@@ -50,7 +39,6 @@ impl Walked {
     }
 }
 
-/// Passes the entry after an offset. Returns `None` at the end.
 fn pass_next<M: Medium>(medium: &mut M, at: u64) -> Result<Option<PassedEntry>, MediumFailed>
     ensures run { LooksAlong (medium_kind_of M.Medium) at result (HasPassed Forward) medium.old medium.new }
     ensures nearer { IfOk result (λ passed. IfSome passed (λ p. way_left Forward p.at < way_left Forward at)) }
@@ -64,7 +52,6 @@ fn pass_next<M: Medium>(medium: &mut M, at: u64) -> Result<Option<PassedEntry>, 
     }))
 }
 
-/// Passes the entry before an offset. Returns `None` at the beginning.
 fn pass_last<M: Medium>(medium: &mut M, at: u64) -> Result<Option<PassedEntry>, MediumFailed>
     ensures run { LooksAlong (medium_kind_of M.Medium) at result (HasPassed Back) medium.old medium.new }
     ensures nearer { IfOk result (λ passed. IfSome passed (λ p. way_left Back p.at < way_left Back at)) }
@@ -78,7 +65,6 @@ fn pass_last<M: Medium>(medium: &mut M, at: u64) -> Result<Option<PassedEntry>, 
     }))
 }
 
-/// Passes the next entry from offset `at` in the direction `way`. Returns `None` if there is none.
 fn pass<M: Medium>(medium: &mut M, way: Way, at: u64) -> Result<Option<PassedEntry>, MediumFailed>
     ensures run { LooksAlong (medium_kind_of M.Medium) at result (HasPassed way) medium.old medium.new }
     ensures nearer { IfOk result (λ passed. IfSome passed (λ p. way_left way p.at < way_left way at)) }
@@ -89,9 +75,7 @@ fn pass<M: Medium>(medium: &mut M, way: Way, at: u64) -> Result<Option<PassedEnt
     }
 }
 
-/// Walks past `count` marks, or as far as there are entries.
-///
-/// Fails if the medium fails. With a count of 0 it makes no call of the medium.
+/// Walks past `count` marks, or until no entry is left.
 pub(super) fn walk_files<M: Medium>(
     medium: &mut M,
     way: Way,
@@ -115,9 +99,7 @@ pub(super) fn walk_files<M: Medium>(
     Ok(Walked { at, left })
 }
 
-/// Walks past `count` records. Stops early after the first mark it passes, or if no entry is left.
-///
-/// Fails if the medium fails. With a count of 0 it makes no call of the medium.
+/// Walks past `count` records, or past a mark that comes first, or until no entry is left.
 pub(super) fn walk_records<M: Medium>(
     medium: &mut M,
     way: Way,

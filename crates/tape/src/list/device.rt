@@ -1,4 +1,4 @@
-//! The device of a reel in memory, whose writes can be made to fail.
+//! The writes of a reel in memory, which can be made to fail.
 
 ghost use Rattle.std.specs.Prelude.{◌≡◌, ◌≢◌, ◌+◌, ◌*◌, ◌≤◌, ◌<◌, ◌^◌, MatchResult, [], ◌∷◌, length, replicate};
 ghost use Rattle.tape.specs.Failures.{Steps};
@@ -12,11 +12,7 @@ ghost use Rattle.tape.specs.declared.trouble.Trouble.TheVariants.{None};
 
 use crate::{FileReel, MemoryMedium, TapeFault, Trouble};
 
-/// Writes a record at the place, with nothing after it, with a device that fails as `trouble` says.
-/// Allocates nothing.
-///
-/// Fails with `Device` if there is a trouble, which determines what remains from the place on. The
-/// place is unchanged then.
+/// Writes a record at the place, and fails if there is a trouble. Allocates nothing.
 pub(super) fn put_record(
     reel: &mut FileReel<MemoryMedium>,
     bytes: &[u8],
@@ -40,11 +36,6 @@ pub(super) fn put_record(
     finish_write(reel, start, trouble)
 }
 
-/// Writes `count` marks at the place, with nothing after them, with a device that fails as
-/// `trouble` says. Allocates nothing.
-///
-/// Fails with `Device` if there is a trouble, which determines what remains from the place on. The
-/// place is unchanged then.
 pub(super) fn put_marks(
     reel: &mut FileReel<MemoryMedium>,
     count: u32,
@@ -63,9 +54,7 @@ pub(super) fn put_marks(
     finish_write(reel, start, trouble)
 }
 
-/// Ends a write that began at offset `start`.
-///
-/// If there is a trouble, moves the reel back to `start` and fails with `Device`.
+/// Ends a write that began at `start`. With a trouble, moves back there and fails.
 fn finish_write(
     reel: &mut FileReel<MemoryMedium>,
     start: u64,

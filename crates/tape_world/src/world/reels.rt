@@ -4,17 +4,17 @@ ghost use Rattle.std.specs.Option.{option_copied, option_map};
 ghost use Rattle.std.specs.Str.{bytes_eq};
 ghost use Rattle.tape.specs.List.{entry_length, entry_bytes, with_front};
 ghost use Rattle.drives.specs.ListLibrary.{rest_slot};
-ghost use Rattle.tape_host.specs.Servers.{side_at};
+ghost use Rattle.world_host.specs.Servers.{side_at};
 ghost use Rattle.world_model.specs.Changes.{first_name};
 ghost use Rattle.tape_world.specs.Entries.{AreOpenThere, entry_on, tape_online, first_tape_online};
 
 use super::World;
 use drives::ListedReel;
 use tape::TroubledReel;
-use tape_host::Host;
+use world_host::Host;
 use world_model::kept;
 
-/// Whether the first reel of a stack has that name, or, if the stack is empty, whether the name is.
+/// Whether the first reel of a stack has that name. An empty stack has the empty name.
 fn is_first(stack: &[ListedReel], name: &[u8]) -> bool
     ensures { result ≡ bytes_eq name.now (first_name (map rest_slot stack.now)) }
 {
@@ -54,17 +54,15 @@ fn find_online<'a>(host: &'a Host, count: usize, name: &[u8]) -> Option<&'a Trou
 }
 
 impl World {
-    /// Returns the length of entry `i` of the reel with the given name, and copies the entry's
-    /// bytes into `into`. The first entry has index 0. The length of a record is its number of
-    /// bytes, at least 1, and the length of a mark is 0. Returns none past the last entry, and if
-    /// there is no such reel.
+    /// Returns the length of entry `i`, from 0, of the reel with the given name. The reel can be on
+    /// a stack, in the bin, or in a drive. The length of a record is its number of bytes, at least
+    /// 1, and the length of a mark is 0. Returns `None` past the last entry, and if there is no
+    /// such reel.
     ///
     /// Copies the first bytes of the record, as many as fit, to the front of `into`, and changes no
     /// more of it.
     #[tactic(auto, using(crate::proofs::Online::held_there))]
     pub fn entry(&self, reel: &[u8], i: usize, into: &mut [u8]) -> Option<usize>
-        // Returns the length of the entry (a record or a file mark), and copies as many bytes of
-        // the entry as fit into `into`. The reel can be on a stack, in the bin, or open in a drive.
         ensures told { result ≡ entry_length (entry_on self.now reel.now i) }
         ensures copied { into.new ≡ with_front (entry_bytes (entry_on self.now reel.now i)) into.old }
     {

@@ -1,7 +1,4 @@
 //! The functions that return the state of a world.
-//!
-//! A drive's latched reel is the first of its stack: it is in the drive until it is laid back or
-//! moved to the bin.
 ghost use Rattle.std.specs.Prelude.{◌≡◌, Option, Some, map, IfSome};
 ghost use Rattle.std.specs.Option.{option_copied, option_map};
 ghost use Rattle.drives.specs.ListLibrary.{rest_slot};
@@ -17,9 +14,8 @@ use dumpdates::Dates;
 use rmt_server::Session;
 
 impl World {
-    /// Returns all volumes that were counted, in the order in which they were counted.
+    /// Returns all counted volumes, in the order in which they were counted.
     pub fn counts(&self) -> Counts<'_>
-        // Returns the counted volumes.
         ensures { result ≡ self.now.counts }
     {
         let history = &self.world_state.history;
@@ -31,17 +27,14 @@ impl World {
 
     /// Returns the entries of dumpdates.
     pub fn dates(&self) -> &Dates
-        // Returns the entries of dumpdates. The types allow no other body, so no wrong body is
-        // tried.
+        // The types allow no other body, so no wrong body is tried.
         ensures { result.now ≡ self.now.dates }
     {
         &self.world_state.dates
     }
 
-    /// Returns the failure of an attempt, if the last event made an attempt fail.
+    /// Returns the volume and the cause, if the last event made an attempt fail.
     pub fn failure(&self) -> Option<(u32, AttemptFault)>
-        // If the last event made an attempt fail, the call returns the attempt's volume and the
-        // cause. Otherwise the call returns `None`.
         ensures { result ≡ self.now.failure }
     {
         self.world_state.failure
@@ -49,17 +42,13 @@ impl World {
 
     /// Returns the connection number of the client's attempt, if an attempt is under way.
     pub fn own(&self) -> Option<usize>
-        // Returns the connection number of the client's attempt, or `None` if no attempt is under
-        // way.
         ensures { result ≡ self.now.own }
     {
         self.world_state.own
     }
 
-    /// Returns the client, if there is a client.
+    /// Returns the client, if there is one. Its source has the payload of its run.
     pub fn client(&self) -> Option<&Client<ListBlocks>>
-        // Returns the client, if there is one. The client's source contains the payload of the
-        // client's run.
         ensures told { option_map client_told (option_copied result) ≡ option_map caller_told self.now.caller }
         ensures payload { IfSome (option_copied result) (λ client. IsPayloadOf self.now client.source) }
     {
@@ -72,9 +61,6 @@ impl World {
     /// The number of its seat is that of the connection.
     #[tactic(auto, using(crate::proofs::Server::side_found))]
     pub fn session(&self, connection: usize) -> Option<&Session<LocalHolds, ListStacks>>
-        // If the server's side of the connection is live, the call returns the session of this
-        // connection. The session's seat, which holds drives for the session, has the same number
-        // as the connection.
         ensures seen { option_map (λ s. session_seen s.opened) (option_copied result)
             ≡ option_map (λ s. s.session) (side_of self.now.server connection) }
         ensures number { IfSome (option_copied result) (λ s. s.seat.number ≡ connection) }
@@ -82,13 +68,10 @@ impl World {
         self.world_state.host.session(connection)
     }
 
-    /// Returns how many bytes in transit on the given connection the server can receive now, and
-    /// how many the peer (the client or a stranger) can receive. The server's reader can have room
-    /// for fewer than are in transit. Returns none if there is no such connection.
+    /// Returns how many bytes in transit on a connection the server can receive now, and how many
+    /// the peer (the client or a stranger) can. The server's reader can have room for fewer than
+    /// are in transit. Returns `None` if there is no such connection.
     pub fn on_way(&self, connection: usize) -> Option<(usize, usize)>
-        // Returns two numbers for the given connection. The first says how many of the bytes in
-        // transit to the server can arrive now. The second says how many of the bytes in transit to
-        // the peer can arrive now.
         ensures { IsOnWay self.now connection result }
     {
         self.kept();
@@ -104,8 +87,6 @@ impl World {
     /// Returns the reels on the stack of the first drive with the given name, in order. The first
     /// is latched, or is the next to be. Returns none if there is no such drive.
     pub fn stack(&self, drive: &[u8]) -> Option<&[ListedReel]>
-        // Returns the stack of the first drive with the given name, or `None` if no drive has this
-        // name.
         ensures { IsStackOf drive.now self.now.server.library (option_map (map rest_slot) (option_copied result)) }
     {
         let drive = self.world_state.host.drive(drive)?;
@@ -114,7 +95,6 @@ impl World {
 
     /// Returns the reels of the bin, in the order in which they were moved there.
     pub fn bin(&self) -> &[ListedReel]
-        // Returns the reels of the bin.
         ensures { map rest_slot result.now ≡ self.now.server.library.bin }
     {
         self.world_state.host.bin()

@@ -18,9 +18,9 @@ use crate::caller::{Begun, WorldClient};
 use crate::stop::EventStop;
 use dump_client::{Answer, AttemptFault, Client, ListBlocks, Progress, Run, State};
 use std::alloc::{AllocError, Global};
-use world_connections::{AttemptState, Connection};
+use world_host::{AttemptState, Connection};
 
-/// Copies the payload, as blocks of the run. Fails if an allocation fails.
+/// Copies the payload, as blocks of the run.
 fn blocks_of(alloc: Global, run: &Run, payload: &[u8]) -> Result<ListBlocks, AllocError>
     requires { length payload.now ≡ run.now.blocks * run.now.block_bytes }
     ensures listed { IfOk result (λ b. b ≡ listed (cut_blocks run.now.blocks run.now.block_bytes payload.now) false 0) }
@@ -30,7 +30,6 @@ fn blocks_of(alloc: Global, run: &Run, payload: &[u8]) -> Result<ListBlocks, All
     Ok(ListBlocks::new(copy, run.block_bytes(), run.blocks()))
 }
 
-/// Makes the record of a run that begins with this payload. Fails if an allocation fails.
 fn begun_of(alloc: Global, run: &Run, payload: &[u8]) -> Result<Begun, AllocError>
     requires { length payload.now ≡ run.now.blocks * run.now.block_bytes }
     ensures { IfOk result (λ b. IsBegunWith run.now payload.now b) }
@@ -41,9 +40,6 @@ fn begun_of(alloc: Global, run: &Run, payload: &[u8]) -> Result<Begun, AllocErro
     })
 }
 
-/// Adds a run that begins with this payload, as the last of `begun`.
-///
-/// Fails if an allocation fails. Nothing has changed then.
 fn add_begun(
     alloc: Global,
     begun: &mut Vec<Begun>,
@@ -59,7 +55,6 @@ fn add_begun(
     Ok(())
 }
 
-/// Makes a client of the run, with its payload. Fails if an allocation fails.
 fn client_of(alloc: Global, run: &Run, payload: &[u8]) -> Result<Client<ListBlocks>, AllocError>
     requires { length payload.now ≡ run.now.blocks * run.now.block_bytes }
     ensures made { IfOk result (λ c. c.at ≡ standing run.now [] Ready) }
@@ -74,8 +69,6 @@ fn client_of(alloc: Global, run: &Run, payload: &[u8]) -> Result<Client<ListBloc
 }
 
 /// Begins a run of this payload: adds it at the end of `begun`, and returns its client.
-///
-/// Fails if an allocation fails. Nothing has changed then.
 fn begin(
     alloc: Global,
     begun: &mut Vec<Begun>,
@@ -94,7 +87,6 @@ fn begin(
     Ok(client)
 }
 
-/// Replaces the client by this one, or by none.
 pub(super) fn change_caller(caller: &mut Option<WorldClient>, new: Option<WorldClient>)
     ensures { caller.new ≡ new }
 {
@@ -102,8 +94,6 @@ pub(super) fn change_caller(caller: &mut Option<WorldClient>, new: Option<WorldC
 }
 
 /// Starts an attempt of the client, which must be ready, and returns the attempt.
-///
-/// Fails if an allocation fails. Nothing has changed then.
 #[tactic(auto, using(crate::proofs::Starting::starts))]
 fn start_attempt(caller: &mut Option<WorldClient>) -> Result<AttemptState, EventStop>
     requires { IsReady caller.old }
@@ -119,7 +109,6 @@ fn start_attempt(caller: &mut Option<WorldClient>) -> Result<AttemptState, Event
     Ok(AttemptState::new(caller.number, volume, first))
 }
 
-/// Gives the operator's answer to the client, if there is one.
 fn give_answer(caller: &mut Option<WorldClient>, answer: Answer)
     ensures { ClientAnswers caller.old answer caller.new }
 {
@@ -163,13 +152,8 @@ impl WorldState {
         }
     }
 
-    /// Begins a run with the given payload, and makes a client for the run.
-    ///
-    /// Not possible while the client's run is neither finished nor abandoned, or if the payload
-    /// does not have the bytes of the run's blocks.
+    /// Begins a run, and makes a client for it. A saved run is dropped.
     pub(crate) fn start_run(&mut self, run: &Run, payload: &[u8]) -> Result<(), EventStop>
-        // Begins a run, and makes a client for this run. Runs are numbered 1, 2, 3 and so on. If an
-        // earlier run was saved, the saved run is dropped.
         ensures { IsEvent self.old (StartRun run.now payload.now) result self.new }
     {
         let bytes = run.blocks() as usize * run.block_bytes();
@@ -187,11 +171,9 @@ impl WorldState {
         Ok(())
     }
 
-    /// Starts an attempt of the client, on a new connection. Not possible unless the client is
-    /// ready.
+    /// Starts an attempt of the client, on a new connection.
     #[tactic(auto, using(crate::proofs::Starting::unstarted_sourced, crate::proofs::Starting::started, crate::proofs::Clients::sourced_same))]
     pub(crate) fn connect(&mut self) -> Result<(), EventStop>
-        // Starts an attempt of the client, and makes a new connection for this attempt.
         ensures { IsEvent self.old Connect result self.new }
     {
         if !self.is_client_in(State::Ready) {
@@ -208,11 +190,8 @@ impl WorldState {
         Ok(())
     }
 
-    /// Gives the operator's answer to the client. Not possible unless the client asks, as it does
-    /// after an attempt failed.
+    /// Gives the client the operator's answer. If this abandons the run, the saved run is dropped.
     pub(crate) fn respond(&mut self, answer: Answer) -> Result<(), EventStop>
-        // Gives the client the operator's answer after a failed attempt. If the operator abandons
-        // the run, the saved run is dropped.
         ensures { IsEvent self.old (Respond answer) result self.new }
     {
         if !self.is_client_in(State::Asking) {
@@ -224,13 +203,10 @@ impl WorldState {
         Ok(())
     }
 
-    /// Lets the peer (the client or a stranger) notice that the connection has ended, and leave the
-    /// connection. Not possible unless the connection was cut and the peer is still there.
+    /// Lets the peer notice that the connection has ended, and leave it. If the peer is the client,
+    /// this ends its attempt.
     pub(crate) fn end_at_client(&mut self, connection: usize) -> Result<(), EventStop>
         requires { IsWorldKept self.old }
-        // The peer notices that the given connection has ended, and leaves the connection. If the
-        // peer is the client, the client's attempt ends. If the attempt fails, the world records
-        // the failure.
         ensures { IsEvent self.old (EndAtClient connection) result self.new }
     {
         let Some(conn) = self.connections.find(connection) else {

@@ -4,13 +4,11 @@ ghost use Rattle.tape_world.specs.Holding.{IsEvent};
 
 use super::WorldState;
 use crate::stop::EventStop;
-use world_connections::Connection;
+use world_host::Connection;
 
 impl WorldState {
-    /// Cuts the connection, so that bytes sent on the connection later are lost. Not possible if it
-    /// was cut already.
+    /// Cuts the connection: bytes that are sent on it later are lost.
     pub(crate) fn cut(&mut self, connection: usize) -> Result<(), EventStop>
-        // Cuts the given connection.
         ensures { IsEvent self.old (Cut connection) result self.new }
     {
         let Some(conn) = self.connections.find(connection) else {
@@ -26,7 +24,6 @@ impl WorldState {
 
     /// Makes a new connection of a stranger.
     pub(crate) fn stranger(&mut self) -> Result<(), EventStop>
-        // Makes a new connection of a stranger.
         ensures { IsEvent self.old Stranger result self.new }
     {
         self.connections.reserve()?;
@@ -37,11 +34,8 @@ impl WorldState {
         Ok(())
     }
 
-    /// Sends the given bytes from a stranger to the server. Not possible unless the connection is a
-    /// stranger's that is still there.
+    /// Sends the given bytes from a stranger to the server. After a cut they are lost.
     pub(crate) fn says(&mut self, connection: usize, bytes: &[u8]) -> Result<(), EventStop>
-        // A stranger sends the given bytes to the server. If the connection was cut, the bytes are
-        // lost.
         ensures { IsEvent self.old (Says connection bytes.now) result self.new }
     {
         let Some(conn) = self.connections.find(connection) else {

@@ -1,7 +1,4 @@
 //! The event that enters the finished run in dumpdates.
-//!
-//! A count is the record of a volume that was written whole: its number, its first block and its
-//! number of blocks.
 ghost use Rattle.std.specs.Prelude.{◌≡◌, ◌==◌, ◌↔◌, true, IfOk};
 ghost use Rattle.std.specs.List.{list_any};
 ghost use Rattle.world_model.specs.Events.PlainEvent.{Enter};
@@ -16,7 +13,6 @@ use crate::history::{Entered, History};
 use crate::stop::EventStop;
 use std::alloc::{AllocError, Global};
 
-/// Whether the run with this number is among these.
 fn has_run(entered: &[Entered], run: usize) -> bool
     ensures { result ≡ list_any (λ e. e.run == run) entered.now }
 {
@@ -31,8 +27,6 @@ pub(super) fn has_entered(history: &History, run: usize) -> bool
 }
 
 /// Returns the run of this client, with its counts.
-///
-/// Fails only if an allocation fails.
 fn entered_of(alloc: Global, caller: &WorldClient) -> Result<Entered, AllocError>
     ensures { IfOk result (λ e. seen_entered e ≡ record { run = caller.now.number; listed = caller.now.client.at.counts }) }
 {
@@ -43,12 +37,8 @@ fn entered_of(alloc: Global, caller: &WorldClient) -> Result<Entered, AllocError
 }
 
 impl WorldState {
-    /// Enters the client's run in dumpdates, and drops the saved run. Not possible unless the run
-    /// is finished and was not entered yet.
+    /// Enters the client's run in dumpdates, and drops the saved run.
     pub(crate) fn enter(&mut self) -> Result<(), EventStop>
-        // Enters the client's run in dumpdates, if the run is finished and was not entered before.
-        // The history then lists the run, with the client's list of counts. The saved run is
-        // dropped.
         ensures { IsEvent self.old Enter result self.new }
     {
         let Some(caller) = &self.caller else {

@@ -1,6 +1,4 @@
 //! The event in which bytes reach the client or a stranger.
-//!
-//! A count is the record of a volume that the client wrote whole to a reel.
 ghost use Rattle.std.specs.Prelude.{◌≡◌, ◌≤◌, ◌++◌, ℕ, List, true, length, map, option_to_list, slice_get};
 ghost use Rattle.world_model.specs.Changes.{changed, reel_opened_by};
 ghost use Rattle.world_model.specs.Events.PlainEvent.{ToClient};
@@ -21,24 +19,20 @@ use dump_client::{AttemptFault, Client, ListBlocks, Progress, State, VolumeCount
 /// The outcome of bytes that the client heard.
 #[derive(Clone, Copy)]
 struct PieceHeard {
-    /// The number of the client's run.
     run: usize,
     /// The volume that was counted, if one was.
     count: Option<VolumeCount>,
-    /// Whether the attempt is over.
     is_over: bool,
     /// The volume and the cause, if the attempt failed.
     failure: Option<(u32, AttemptFault)>,
 }
 
-/// Whether the attempt is over.
 fn is_over(progress: Progress) -> bool
     ensures { result ≡ is_over progress }
 {
     matches!(progress, Progress::Failed(_) | Progress::Ended)
 }
 
-/// Returns the volume and the cause, if the attempt failed.
 fn failure_of(client: &Client<ListBlocks>, progress: Progress) -> Option<(u32, AttemptFault)>
     ensures { result ≡ failure_of client.now.at progress }
 {
@@ -48,7 +42,6 @@ fn failure_of(client: &Client<ListBlocks>, progress: Progress) -> Option<(u32, A
     }
 }
 
-/// Returns the count at this place, from 0, if there is one.
 fn count_at(counts: &[VolumeCount], place: usize) -> Option<VolumeCount>
     ensures { result ≡ slice_get counts.now place }
 {
@@ -102,8 +95,8 @@ fn reel_of(history: &History, connection: usize) -> usize
 }
 
 impl History {
-    /// Appends the volume that the client has counted, if it has. `reel` is the index of its reel's
-    /// name. There must be room for one more count.
+    /// Appends the volume that the client counted, if it did. `reel` is the index of its reel's
+    /// name.
     fn keep(&mut self, heard: &PieceHeard, reel: usize, connection: usize)
         requires { self.old.rooms.counts ≡ true }
         ensures { self.new ≡ record self.old {
@@ -146,20 +139,10 @@ fn deliver_or_leave(
 }
 
 impl WorldState {
-    /// Delivers the first `count` bytes in transit to the peer of a connection. Not possible if the
-    /// peer has left, `count` is 0, or fewer bytes are in transit.
+    /// Delivers the first `count` bytes in transit to the peer: the client reads them, and a
+    /// stranger drops them.
     pub(crate) fn to_client(&mut self, connection: usize, count: usize) -> Result<(), EventStop>
         requires { IsWorldKept self.old }
-        // Delivers the first `count` bytes in transit to the peer of the given connection. If the
-        // peer is the client, the client reads the bytes. If the peer is a stranger, the stranger
-        // drops the bytes.
-        //
-        // If the delivered bytes make the client count a volume, the history gets a count. The
-        // count names the run, the client's connection, and the reel that was opened on this
-        // connection.
-        //
-        // If the delivered bytes end the client's attempt, with or without a failure, the client
-        // leaves the attempt's connection.
         ensures { IsEvent self.old (ToClient connection count) result self.new }
     {
         let Some(conn) = self.connections.find(connection) else {

@@ -13,10 +13,9 @@ use crate::history::History;
 use drives::{DriveFault, ListStacks};
 use dumpdates::Dates;
 use std::alloc::{AllocError, Global};
-use tape_host::Host;
+use world_host::Host;
 
-/// Adds blank reels of these names and of this capacity in bytes, at the end of the stack of a
-/// drive. Fails only if an allocation fails.
+/// Adds blank reels of these names, of this capacity in bytes, at the end of the stack of a drive.
 fn add_reels(
     stacks: &mut ListStacks,
     drive: usize,
@@ -39,7 +38,7 @@ fn add_reels(
     Ok(())
 }
 
-/// Adds a drive with its reels, all of them blank. Fails only if an allocation fails.
+/// Adds a drive with its reels, all of them blank.
 fn add_drive(stacks: &mut ListStacks, drive: &DriveSpec<'_>) -> Result<(), AllocError>
     requires free { IsDriveNamed drive.now.name.now stacks.old.library None }
     requires once { EachReelOnce (with_laid stacks.old.library drive.now) }
@@ -57,8 +56,7 @@ fn add_drive(stacks: &mut ListStacks, drive: &DriveSpec<'_>) -> Result<(), Alloc
     add_reels(stacks, number, drive.reels, drive.capacity)
 }
 
-/// Makes the stacks of these drives, with their reels, all of them blank. Fails if an allocation
-/// fails.
+/// Makes the stacks of these drives, with their reels, all of them blank.
 fn stacks_of(alloc: Global, drives: &[DriveSpec<'_>]) -> Result<ListStacks, AllocError>
     requires { AreGoodDrives (map plain_drive_spec drives.now) }
     ensures laid { IfOk result (λ s. s.library ≡ laid_library drives.now) }
@@ -72,7 +70,7 @@ fn stacks_of(alloc: Global, drives: &[DriveSpec<'_>]) -> Result<ListStacks, Allo
     Ok(stacks)
 }
 
-/// Copies the names of all reels of these drives, in order. Fails if an allocation fails.
+/// Copies the names of all reels of these drives, in order.
 fn names_of(alloc: Global, drives: &[DriveSpec<'_>]) -> Result<Vec<Vec<u8>>, AllocError>
     ensures { IfOk result (λ names. map (λ n. n.items) names.items ≡ flat_map reels_of drives.now) }
 {
@@ -83,7 +81,6 @@ fn names_of(alloc: Global, drives: &[DriveSpec<'_>]) -> Result<Vec<Vec<u8>>, All
     Ok(names)
 }
 
-/// Adds copies of these names. Fails if an allocation fails.
 fn push_names(alloc: Global, names: &mut Vec<Vec<u8>>, more: &[&[u8]]) -> Result<(), AllocError>
     ensures { OnOk result (map (λ n. n.items) names.new.items ≡ map (λ n. n.items) names.old.items ++ map (λ n. n.now) more.now) }
 {
@@ -94,8 +91,7 @@ fn push_names(alloc: Global, names: &mut Vec<Vec<u8>>, more: &[&[u8]]) -> Result
     Ok(())
 }
 
-/// Makes a history that has the names of all reels of these drives, and nothing else. Fails if an
-/// allocation fails.
+/// Makes a history that has the names of all reels of these drives, and nothing else.
 fn history_of(alloc: Global, drives: &[DriveSpec<'_>]) -> Result<History, AllocError>
     ensures names { IfOk result (λ b. b.names ≡ flat_map reels_of drives.now) }
     ensures counts { IfOk result (λ b. b.counts ≡ []) }
@@ -115,9 +111,7 @@ fn history_of(alloc: Global, drives: &[DriveSpec<'_>]) -> Result<History, AllocE
 }
 
 impl WorldState {
-    /// Makes a server with these drives, whose reels are blank, no connection and no client.
-    ///
-    /// Fails only if an allocation fails.
+    /// Makes a world with these drives, whose reels are blank, no connection and no client.
     pub(crate) fn new(alloc: Global, drives: &[DriveSpec<'_>]) -> Result<WorldState, AllocError>
         requires { AreGoodDrives (map plain_drive_spec drives.now) }
         ensures { IfOk result (λ w. w ≡ first_world (map plain_drive_spec drives.now)) }
@@ -127,8 +121,7 @@ impl WorldState {
         WorldState::with_host(alloc, drives, host)
     }
 
-    /// Makes a world of `host`, the server with these drives, whose reels are blank. The world has
-    /// no connection and no client. Fails only if an allocation fails.
+    /// Like `new`, for `host`, the server with these drives.
     fn with_host(
         alloc: Global,
         drives: &[DriveSpec<'_>],

@@ -9,13 +9,10 @@ use crate::stop::EventStop;
 use world_model::kept;
 
 impl WorldState {
-    /// Puts the given reels on the stack of the given drive. Not possible if there is no such
-    /// drive, or it has a holder. Each name must be that of a reel in the bin or on the stack, and
-    /// none may occur twice.
+    /// Puts the given reels on the stack of the given drive. Not possible while the drive has a
+    /// holder.
     pub(crate) fn arrange(&mut self, drive: &[u8], reels: &[&[u8]]) -> Result<(), EventStop>
         requires { IsWorldKept self.old }
-        // The operator chooses the reels on the stack of the given drive, and their order. The
-        // event is possible only while no session has the drive open.
         ensures { IsEvent self.old (Arrange drive.now (map (λ n. n.now) reels.now)) result self.new }
     {
         let Some(place) = self.host.drive(drive) else {

@@ -1,8 +1,5 @@
 //! The run that is saved outside the client, as in a checkpoint file, and the client that resumes
 //! it.
-//!
-//! A count is the record of a volume that was written whole: its number, its first block and its
-//! number of blocks.
 ghost use Rattle.std.specs.Prelude.{◌≡◌, ◌↔◌, ℕ, true, Some, IfOk};
 ghost use Rattle.dump_run.specs.Checkpoint.{checkpoint_text};
 ghost use Rattle.world_model.specs.Events.PlainEvent.{ClientRestart, Save};
@@ -23,7 +20,6 @@ use dump_client::{Answer, Client, State};
 use dump_run::one_checkpoint;
 use std::alloc::{AllocError, Global};
 
-/// Replaces the saved run by this one, or by none.
 pub(super) fn change_kept(kept: &mut Option<KeptRun>, new: Option<KeptRun>)
     ensures { kept.new ≡ new }
 {
@@ -39,10 +35,7 @@ pub(super) fn drop_kept(kept: &mut Option<KeptRun>, answer: Answer)
     }
 }
 
-/// Returns what is saved of this client's run: its number, its counts, and the text of its
-/// checkpoint.
-///
-/// Fails only if an allocation fails.
+/// Returns what is saved of this client's run.
 fn kept_of(alloc: Global, caller: &WorldClient) -> Result<KeptRun, AllocError>
     ensures { IfOk result (IsKeptOf caller.now) }
 {
@@ -68,8 +61,6 @@ fn may_keep(caller: &WorldClient, history: &History) -> bool
 }
 
 /// Makes the client that resumes the saved run, or `None` if none is saved.
-///
-/// Fails only if an allocation fails.
 fn resume_run(
     alloc: Global,
     kept: &Option<KeptRun>,
@@ -105,13 +96,9 @@ fn end_own(connections: &mut Connections, own: Option<usize>)
 }
 
 impl WorldState {
-    /// Saves the client's run and the client's list of counts outside the client. Not possible if
-    /// there is no client, or its run is abandoned, or both finished and entered.
+    /// Saves the client's run and its counts outside the client, so that they outlive a restart.
     pub(crate) fn save(&mut self) -> Result<(), EventStop>
         requires { IsWorldKept self.old }
-        // Saves the client's run and the client's list of counts, so that both outlive a restart of
-        // the client. The call does not save an abandoned run. The call does not save a finished
-        // run that was entered in dumpdates.
         ensures { IsEvent self.old Save result self.new }
     {
         let Some(caller) = &self.caller else {
@@ -126,14 +113,10 @@ impl WorldState {
         Ok(())
     }
 
-    /// Restarts the client: if a run is saved, a new client resumes this run, and otherwise there
-    /// is no client. The old client leaves its own connection, if it has one. Not possible if there
-    /// is no client.
+    /// Restarts the client. If a run is saved, a new client resumes it with the saved counts, and
+    /// otherwise there is no client. The old client leaves its own connection, if it has one.
     pub(crate) fn client_restart(&mut self) -> Result<(), EventStop>
         requires { IsWorldKept self.old }
-        // If a run is saved, a new client resumes the run from the saved checkpoint text, with the
-        // saved list of counts. If no run is saved, there is no client after the restart. The old
-        // client leaves its own connection, if it has one.
         ensures { IsEvent self.old ClientRestart result self.new }
     {
         if self.caller.is_none() {

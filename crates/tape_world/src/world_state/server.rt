@@ -8,12 +8,9 @@ use crate::stop::EventStop;
 use world_model::kept;
 
 impl WorldState {
-    /// Delivers the first `count` bytes in transit to the server. Not possible if the server's side
-    /// is not live, `count` is 0, fewer bytes are in transit, or the reader has less room.
+    /// Delivers the first `count` bytes in transit to the server.
     pub(crate) fn to_server(&mut self, connection: usize, count: usize) -> Result<(), EventStop>
         requires { IsWorldKept self.old }
-        // Delivers the first `count` bytes in transit to the server. If the call fails, nothing
-        // changes.
         ensures { IsEvent self.old (ToServer connection count) result self.new }
     {
         let Some(room) = self.host.room(connection) else {
@@ -32,12 +29,10 @@ impl WorldState {
         Ok(())
     }
 
-    /// Lets the server notice that the connection has ended, and end the server's side of the
-    /// connection. Not possible unless the connection was cut and the server's side is live.
+    /// Lets the server notice that the connection has ended, and end its side. The bytes in transit
+    /// to the server are lost.
     pub(crate) fn end_at_server(&mut self, connection: usize) -> Result<(), EventStop>
         requires { IsWorldKept self.old }
-        // The server notices that the given connection has ended, and ends the server's side of the
-        // connection. The bytes in transit to the server are lost.
         ensures { IsEvent self.old (EndAtServer connection) result self.new }
     {
         let Some(conn) = self.connections.find(connection) else {
@@ -56,7 +51,6 @@ impl WorldState {
     /// Restarts the server, which ends the server's side of every connection.
     pub(crate) fn server_restart(&mut self) -> Result<(), EventStop>
         requires { IsWorldKept self.old }
-        // Restarts the server, which ends the server's side of every connection.
         ensures { IsEvent self.old ServerRestart result self.new }
     {
         kept();

@@ -1,19 +1,17 @@
 //! The event in which the server carries out a request that reached it.
-//!
-//! A count is the record of a volume that the client wrote whole to a reel.
 ghost use Rattle.std.specs.Prelude.{◌≡◌, ◌≤◌, ◌<◌, ◌++◌, Contains, List, ℕ, IfOk, OnErr, Some, length, map, option_map, vec_len, vec_capacity};
 ghost use Rattle.std.specs.List.{position_or_len};
 ghost use Rattle.std.specs.Option.{option_copied, option_to_list};
 ghost use Rattle.std.specs.Str.{bytes_eq};
 ghost use Rattle.drives.specs.ListLibrary.{rest_slot};
-ghost use Rattle.tape_host.specs.Servers.{side_at};
+ghost use Rattle.world_host.specs.Servers.{side_at};
 ghost use Rattle.world_model.specs.Changes.{changed, first_name, list_in, opening, writing};
 ghost use Rattle.world_model.specs.Events.PlainEvent.{Serve};
 ghost use Rattle.world_model.specs.Kept.{IsWorldKept};
 ghost use Rattle.tape_world.specs.Connections.{IsThere};
 ghost use Rattle.tape_world.specs.Holding.{IsEvent};
 ghost use Rattle.tape_world.specs.Seen.{IsSameHistory, seen_caller, seen_lists, seen_openings, seen_writings};
-ghost use Rattle.world_connections.specs.Connection.{plain_connection};
+ghost use Rattle.world_host.specs.Connection.{plain_connection};
 ghost use Rattle.tape_world.specs.Serving.{HasRoom, IsNoted, IsOnlineIn, TurnServes, is_write, name_online_at, opened_in, written_in};
 
 use super::WorldState;
@@ -27,13 +25,10 @@ use rmt_wire::READER_LIMIT;
 use rmt_wire::errno::{EACCES, EBADF};
 use std::alloc::{AllocError, Global};
 use tape::Trouble;
-use tape_host::{Answered, Carried, Host, RequestKind, Turn};
-use world_connections::Connection;
+use world_host::{Answered, Carried, Connection, Host, RequestKind, Turn};
 use world_model::kept;
 
 /// Takes one turn of the server's side of a connection, and notes it on the connection.
-///
-/// Fails if an allocation fails. Nothing has changed then.
 fn take_turn(
     host: &mut Host,
     conn: &mut Connection,
@@ -51,8 +46,7 @@ fn take_turn(
     Ok(turn)
 }
 
-/// Takes one turn of the server's side of connection `connection`, which must exist, and notes it
-/// on the connection. Fails if an allocation fails; nothing has changed then.
+/// Like `take_turn`, for the connection with this number, which must exist.
 fn take_turn_at(
     host: &mut Host,
     connections: &mut Connections,
@@ -92,7 +86,7 @@ fn name_online(host: &Host, connection: usize) -> Option<&[u8]>
     Some(name_of_first(host.stack(drive)))
 }
 
-/// Returns the name of the reel that a turn of a connection opened for writing, if it did.
+/// Returns the name of the reel that a turn opened for writing, if it did.
 fn name_opened(host: &Host, connection: usize, turn: Turn) -> Option<&[u8]>
     requires { IsOnlineIn host.now.server connection }
     ensures { option_copied result ≡ opened_in host.now.server connection turn }
@@ -119,7 +113,7 @@ fn is_write(carried: Carried) -> bool
     }
 }
 
-/// Returns the name of the reel that a turn of a connection wrote on, if it did.
+/// Returns the name of the reel that a turn wrote on, if it did.
 fn name_written(host: &Host, connection: usize, turn: Turn) -> Option<&[u8]>
     requires { IsOnlineIn host.now.server connection }
     ensures { option_copied result ≡ written_in host.now.server connection turn }
@@ -145,8 +139,7 @@ fn place_of(names: &[Vec<u8>], name: &[u8]) -> usize
     names.len()
 }
 
-/// If the turn opened a reel for writing, appends the opening to `opens`, with the index of the
-/// reel's name in `names`.
+/// If the turn opened a reel for writing, appends the opening to `opens`.
 fn note_opening(
     opens: &mut Vec<Opening>,
     names: &[Vec<u8>],
@@ -168,8 +161,8 @@ fn note_opening(
     opens.push_reserved(Opening { connection, reel });
 }
 
-/// If the turn wrote on a reel, appends that to `writings`, with the index of the reel's name in
-/// `names`. `after` is how many opens for writing were listed before it.
+/// If the turn wrote on a reel, appends that to `writings`. `after` is how many opens for writing
+/// were listed before it.
 fn note_writing(
     writings: &mut Vec<Writing>,
     after: usize,
@@ -217,8 +210,6 @@ fn note_list(
 }
 
 /// Copies the client's counts. The list is empty if there is no client.
-///
-/// Fails only if an allocation fails.
 fn counted_now(alloc: Global, caller: &Option<WorldClient>) -> Result<Vec<VolumeCount>, AllocError>
     ensures { IfOk result (λ list. list.items ≡ list_in (option_map seen_caller caller.now)) }
 {
@@ -230,8 +221,6 @@ fn counted_now(alloc: Global, caller: &Option<WorldClient>) -> Result<Vec<Volume
 
 impl History {
     /// Reserves room for what a turn may add.
-    ///
-    /// Fails only if an allocation fails.
     fn reserve_notes(&mut self) -> Result<(), AllocError>
         ensures room { IfOk result (λ done. HasRoom self.new.rooms) }
         ensures same { IsSameHistory self.old self.new }
@@ -267,26 +256,8 @@ impl History {
 impl WorldState {
     /// Carries out one request that reached the server, or ends the server's side if the bytes that
     /// arrived are not a request. `trouble` says whether and how the request's device call fails.
-    /// Not possible if there is no such connection, its server's side is not live, or no whole
-    /// request has reached it.
     pub(crate) fn serve(&mut self, connection: usize, trouble: Trouble) -> Result<(), EventStop>
         requires { IsWorldKept self.old }
-        // The server carries out one request that has reached the server. If the request makes a
-        // device call, the event says whether this call fails, and how. If the bytes that reached
-        // the server are not a request, the server's side ends.
-        //
-        // The bytes that are already in transit to the peer stay in transit. The server appends the
-        // reply to these bytes, unless the connection was cut.
-        //
-        // If an attempt's request is to write a record or marks, the world records the outcome of
-        // this write. If the server accepts an open for writing, the history lists the open and the
-        // reel that was opened.
-        //
-        // For each accepted open for writing, the history also has a list of counts: the client's
-        // list at the time of the open. If there was no client, this list of counts is empty.
-        //
-        // If the request is to write a record or marks, and the session has a reel open for
-        // writing, the history lists the write, with the write's connection and reel.
         ensures { IsEvent self.old (Serve connection trouble) result self.new }
     {
         if self.connections.find(connection).is_none() {

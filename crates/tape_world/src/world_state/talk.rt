@@ -7,7 +7,7 @@ ghost use Rattle.world_model.specs.Events.PlainEvent.{Send};
 ghost use Rattle.world_model.specs.Kept.{IsWorldKept};
 ghost use Rattle.tape_world.specs.Connections.{IsThere};
 ghost use Rattle.tape_world.specs.Holding.{IsEvent};
-ghost use Rattle.world_connections.specs.Connection.{plain_connection};
+ghost use Rattle.world_host.specs.Connection.{plain_connection};
 ghost use Rattle.tape_world.specs.Talking.{Asks, IsToSend, talked};
 
 use super::WorldState;
@@ -17,11 +17,10 @@ use crate::stop::EventStop;
 use dump_client::{AttemptFault, State};
 use rmt_wire::READER_LIMIT;
 use std::alloc::{AllocError, Global};
-use world_connections::Connection;
+use world_host::Connection;
 
-/// Writes the next request of the client, which must be about to send one, to `out`. Returns the
-/// volume and the cause if that makes the attempt fail. `out` must be empty, with room for
-/// `READER_LIMIT` bytes.
+/// Writes the next request of the client to `out`. Returns the volume and the cause if that makes
+/// the attempt fail.
 fn ask(
     caller: &mut Option<WorldClient>,
     fails: bool,
@@ -47,11 +46,8 @@ fn ask(
     }
 }
 
-/// Sends the next request of the client, which must be about to send one, on this connection. If
-/// the attempt fails instead, it returns the volume and the cause, and the client leaves the
-/// connection.
-///
-/// Fails if an allocation fails. Nothing has changed then.
+/// Sends the next request of the client on this connection. If the attempt fails instead, returns
+/// the volume and the cause, and the client leaves the connection.
 fn send_on(
     alloc: Global,
     conn: &mut Connection,
@@ -74,10 +70,7 @@ fn send_on(
     Ok(failure)
 }
 
-/// Sends the next request of the client, which must be about to send one, on connection `own`,
-/// which must exist. If `fails` is true, the read of a block fails. If the attempt fails, it
-/// returns the volume and the cause, and the client leaves the connection. Fails if an allocation
-/// fails; nothing has changed then.
+/// Like `send_on`, for connection `own`, which must exist.
 #[tactic(auto, using(crate::proofs::Numbered::put_there, crate::proofs::Numbered::put_back))]
 fn send_own(
     alloc: Global,
@@ -97,13 +90,9 @@ fn send_own(
 
 impl WorldState {
     /// Sends the client's next request. If `fails` is true, and the request is the write of a
-    /// block, the read of that block fails instead. Not possible unless the client is about to send
-    /// one.
+    /// block, the read of that block fails instead, and so does the attempt.
     pub(crate) fn send(&mut self, fails: bool) -> Result<(), EventStop>
         requires { IsWorldKept self.old }
-        // The client sends its next request. If the connection was cut, the request is lost. If a
-        // read of the payload fails, the attempt fails, and the client leaves the attempt's
-        // connection.
         ensures { IsEvent self.old (Send fails) result self.new }
     {
         if !self.is_client_in(State::ToSend) {

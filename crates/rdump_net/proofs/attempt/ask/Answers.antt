@@ -9,9 +9,9 @@ returns-then-send g c =
     let asked = rw (c.clear.ensures.items, c.in-Ok-true.field-0-test) at h.asked in
     let whole = rw (c.as_slice.ensures.value, c.if-send.true) at c.send.ensures.1 in
     record {
-      talks = one_call (λ payload. (h.same_blocks payload).0) c.send.ensures.2
-          (λ old k. (old, asks (vec_capacity c.clear.new.self) c.next_request.new.out.items c.next_request.new.self.at true asked whole (refl, refl), h.fed old k));
-      observed = record { logged = c.sent.ensures.logs; quiet = c.sent.ensures.quiet };
+      talks = rw (c.sent.ensures) (one_call (λ payload. (h.same_blocks payload).0) c.send.ensures.2
+          (λ old k. (old, asks (vec_capacity c.clear.new.self) c.next_request.new.out.items c.next_request.new.self.at true asked whole (refl, refl), h.fed old k)));
+      observed = record { logged = c.sent-then-send.ensures.logs; quiet = c.sent-then-send.ensures.quiet };
     }
 
 pub returns-else-send : goal.returns-else-send

@@ -1,5 +1,5 @@
 use Rattle.std.proofs.Common.{◌∙◌, ap, arith, sym, refl}
-use Rattle.reel_check.specs.declared.holding.Volume.{Volume}
+use Rattle.volume_check.specs.declared.holding.Volume.{Volume}
 use Rattle.restore.proofs.Whole.{is_found, same_volume, size_bound, whole_file, whole_of}
 use Rattle.restore.proofs.found.whole_volume.Goals as goal
 use Rattle.restore.proofs.found.whole_volume.Goals.{then-volume-from-via-then-volume-from, then-volume-from-via-else-volume-from+then-volume-gt-RECORD_LIMIT}

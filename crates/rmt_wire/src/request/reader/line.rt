@@ -1,6 +1,4 @@
-//! Reads the line of a write at the front of a reader.
-//!
-//! The front of the reader is the first of the bytes that it keeps.
+//! Reads the line of a write.
 
 ghost use Rattle.std.specs.Prelude.{◌≡◌, ◌≤◌, length, IfSome};
 ghost use Rattle.rmt_wire.specs.RequestKept as spec;
@@ -8,8 +6,6 @@ ghost use Rattle.rmt_wire.specs.RequestKept as spec;
 use crate::limits::RECORD_LIMIT;
 use crate::number::{Place, number_front};
 
-/// Returns the length of the line and the count of the write that the bytes begin with. Returns
-/// None if they begin with no complete line of a write.
 #[tactic(auto, unfolding(crate::specs::RequestKept::write_line))]
 fn write_line(bytes: &[u8]) -> Option<(usize, u32)>
     ensures value { result ≡ spec.write_line bytes.now }
@@ -24,7 +20,7 @@ fn write_line(bytes: &[u8]) -> Option<(usize, u32)>
     }
 }
 
-/// Returns the same for `unread`. If the line is known from before, it is not read again.
+/// Like `write_line`, but does not read a known line again.
 pub fn line_of(known: Option<(usize, u32)>, unread: &[u8]) -> Option<(usize, u32)>
     requires { spec.IsKnown known unread.now }
     ensures value { result ≡ spec.write_line unread.now }
@@ -36,7 +32,6 @@ pub fn line_of(known: Option<(usize, u32)>, unread: &[u8]) -> Option<(usize, u32
     write_line(unread)
 }
 
-/// Returns the line if its count is above `RECORD_LIMIT`, else None.
 pub fn dropped_line(line: Option<(usize, u32)>) -> Option<(usize, u32)>
     ensures { result ≡ spec.if_dropped line }
 {

@@ -1,4 +1,4 @@
-//! Reads the requests of a stream one by one.
+//! Reads a stream request by request.
 
 ghost use Rattle.std.specs.Prelude.{◌≡◌, ℕ, ◌<◌, List, IsTrue, IsFalse};
 ghost use Rattle.rmt_wire.specs.RequestParts.{IsRequestPrefix, HasNoSpelling};
@@ -33,8 +33,6 @@ impl RequestReader {
     ghost use Rattle.std.specs.Io.BufRead.{Rests};
     ghost use Rattle.rmt_wire.specs.contracts.request.reader.RequestReader.{the_row};
 
-    /// Whether the unread bytes are a beginning of a request, perhaps an empty one, and no complete
-    /// request. Then there is room for more.
     fn is_waiting(&mut self) -> bool
         ensures more { IsTrue result → (bytes : List ℕ) → Unread self.new bytes →
             IsRequestPrefix bytes × HasNoSpelling bytes × (taken_of bytes < READER_LIMIT) }
@@ -49,40 +47,22 @@ impl RequestReader {
         }
     }
 
-    /// Returns the next request of a stream, and lends the request's data. It reads from the stream
-    /// only while the request is incomplete. Returns None if the stream ended between two requests.
+    /// Returns the next request of a stream, and lends its data. Reads only while the request is
+    /// incomplete. Returns None if the stream ended between two requests.
     ///
-    /// Fails with `Truncated` if the stream ended inside a request. Fails with `Broken` at the
-    /// first byte that rules out every request, and with `Input` at the first read that fails. No
-    /// byte that was read is lost: after a failed read the next call continues where this one
-    /// stopped.
+    /// Fails with `Truncated` if it ended inside one, with `Broken` at the first byte that rules
+    /// out every request, and with `Input` at the first read that fails. After a failed read the
+    /// next call continues where this one stopped.
     ///
-    /// The contract requires that the unread bytes are known, as they are for a new reader and
-    /// after each call.
+    /// The unread bytes must be known, as for a new reader and after each call.
     pub fn read_next<R: Read>(
         &mut self,
         stream: &mut Counted<R>,
     ) -> Result<Option<Request<'_>>, StreamFault>
         requires { (bytes : List ℕ) × Unread self.old bytes }
-        // Successive calls of `read_next` return, in order, the requests that are spelled by the
-        // bytes that entered the reader (field `gives_on` of `IsReadNext`). `read_next` returns
-        // `None` if the stream ended and no byte is unread. `read_next` fails with `Truncated` if
-        // the stream ended inside a request. `read_next` fails with `Broken` if the unread bytes
-        // cannot be the start of a request. `read_next` fails with `Input` if a read failed,
-        // whether inside a request or between two requests.
-        //
-        // If a caller writes one reply for each returned request, the replies answer exactly the
-        // stream's requests, in order (field `answers` of `IsReadNext`). A proof about a loop over
-        // `read_next` can use the field `answers`, and needs no lists of requests and replies.
-        //
-        // Some bytes spell the returned request (field `spelled` of `IsReadNext`). After each call
-        // `read_next` can be called again (field `unread` of `IsReadNext`). The field `falls` of
-        // `IsReadNext` gives a natural number that becomes smaller with each returned request. So
-        // `read_next` returns only finitely many requests, and a loop over `read_next` ends.
         ensures* rests { sem 𝓛 (Rests the_row self.entry (λ new. IsReadNext
             (R.remaining stream.old.inner) (R.remaining stream.new.inner) stream.old.left stream.new.left
             self.old (plain_read_next_result result) new)) }
-        // The stream counts a failure if and only if `read_next` fails with `Input`.
         ensures counted { CountsNext (plain_read_next_result result) stream.old.failures stream.new.failures }
     {
         while self.is_waiting() {

@@ -1,5 +1,5 @@
 use Rattle.rsim_schedule.proofs.Words.{◌≤◌, ℕ, List, ◌++◌, true, false, inl, inr, Option, Err, refl, Counting, printed_both, Halt, StreamFailed}
-use Rattle.exit_status.specs.declared.status.ExitStatus.{ExitStatus}
+use Rattle.console.specs.declared.status.ExitStatus.{ExitStatus}
 use Rattle.rsim_schedule.specs.Ending.{IsScheduleRun, IsHaltPrinted, IsScheduled, halt_line}
 use Rattle.rsim_schedule.proofs.running.schedule.Goals as goal
 

@@ -1,4 +1,4 @@
-//! Two drives in memory, and one stream that is served with drives.
+//! Makes two drives in memory, and serves one stream in a new session.
 
 ghost use Rattle.std.specs.Prelude.{◌≡◌, ◌≤◌, ◌+◌, IfOk, IfSome, None, [], length};
 ghost use Rattle.drives.specs.declared.view.View.{View};

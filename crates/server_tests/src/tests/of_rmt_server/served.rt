@@ -10,8 +10,8 @@ use std::alloc::Global;
 
 /// A stream, the replies, how serving ends, and the replies to another session that then opens the
 /// first drive and reads 8 bytes. An input that fails does so after the stream, and an output that
-/// fails does so after the replies. If the output fails, or after bytes that are not a request, the
-/// input would fail too, and is not read again.
+/// fails does so after the replies. If the output fails, or bytes come that are not a request, the
+/// input would fail too if it was read again: the server must not read it again.
 pub(crate) type Row<'a> = (&'a [u8], &'a [u8], u8, &'a [u8]);
 
 /// Whether a stream gets its replies, if the input gives and the output accepts at most `most`

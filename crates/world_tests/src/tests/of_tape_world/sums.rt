@@ -6,7 +6,7 @@ use super::world::new_world;
 use dump_run::{Blocks, ListBlocks, Run, VolumeCount, label};
 use std::test::Fail;
 use tape_world::{DriveSpec, World};
-use volume_sum::Summed;
+use volume_check::Summed;
 
 /// The volume of the blocks `ab` and `cd`: its label begins with 58 bytes of text.
 ///
@@ -17,7 +17,7 @@ static OF_TWO_BLOCKS: &[u8; 32] =
     b"\x5c\x3b\xcb\xe8\x71\xa8\xf1\x99\xad\xcd\x67\x9c\xbc\xf5\xab\x22\
     \xc3\x12\xf3\x76\xe4\xac\x8d\x76\x3b\xeb\x9e\xf0\xdd\xdb\x73\x43";
 
-/// Reads both blocks of a volume, and returns its sum at this world.
+/// Reads and sends both blocks of a volume, and returns its sum at this world.
 fn sum_at(world: &World, payload: Vec<u8>) -> Option<[u8; 32]>
     requires { length payload.items ≡ 4 }
 {
@@ -26,7 +26,9 @@ fn sum_at(world: &World, payload: Vec<u8>) -> Option<[u8; 32]>
     source.begin_volume(&label(&run, 1, 0), 1, 0);
     let mut block = [0; 2];
     source.read(0, &mut block).ok()?;
+    source.sent(0, &block);
     source.read(1, &mut block).ok()?;
+    source.sent(1, &block);
     let count = VolumeCount {
         volume: 1,
         first: 0,

@@ -1,5 +1,6 @@
 use Rattle.dump_client.proofs.Attempt.{◌≡◌, [], arith, rules, common_steps, Close}
 use Rattle.dump_client.proofs.Listening.{waiting_anew}
+use Rattle.dump_client.proofs.Requests.{carried}
 use Rattle.dump_client.proofs.client.Client.next_request.Goals as goal
 
 pub invariant_of-self : goal.invariant_of-self
@@ -18,3 +19,8 @@ returns-in-Err-clause-asked g c =
     let h = c.in-Err.ensures.appended in
     let close : c.in-ToSend.step ≡ Close = grind arith in
     rw (← c.self.view_is, ← c.in-ToSend.ensures.value) (close, grind (arith, h.0), h.1, c.finish.ensures.over.1)
+
+pub returns-in-Ok-clause-carries : goal.returns-in-Ok-clause-carries
+returns-in-Ok-clause-carries g c = λ ok payload held.
+    let h = c.in-Ok.ensures.appended in
+    rw (c.wait.ensures.waits) (carried (λ p. g.B.Blocks.holds c.self.inside.source p) c.self.inside.ledger.at.run _ c.in-ToSend.step h.0 _ _ payload h.1 h.3 ((c.push_step.ensures.same_blocks payload).1 held))

@@ -3,7 +3,7 @@ use Rattle.tape_world.proofs.Numbered.{same_connections}
 use Rattle.tape_world.proofs.Known.{known_after}
 use Rattle.tape_world.proofs.ServingRow.{nothing_there, turned, serves_happens, opened_known, written_known, online_in, noted_history}
 use Rattle.tape_world.proofs.world_state.WorldState.serve.Goals.{In_ok-turn}
-use Rattle.tape_host.specs.declared.turn.Turn.TheVariants as turns
+use Rattle.world_host.specs.declared.turn.Turn.TheVariants as turns
 use Rattle.tape_world.proofs.world_state.WorldState.serve.Goals as goal
 
 -- the world after the turn

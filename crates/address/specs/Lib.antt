@@ -1,2 +1,0 @@
--- The form of an address.
-pub mod Address

@@ -1,0 +1,19 @@
+use Rattle.std.proofs.Common.{◌-◌, rules, arith}
+use Rattle.dump_run.specs.Label.{id_of}
+use Rattle.catalog.specs.Places.{place}
+use Rattle.catalog.specs.Verdict.{IsSumOf}
+use Rattle.catalog.proofs.Places.{sum_id, last_by, none_more}
+use Rattle.catalog.proofs.last_line.last_of_sum.Goals as goal
+
+pub returns-then-has : goal.returns-then-has
+returns-then-has c =
+    last_by (IsSumOf c.args.label.now c.args.sum.now) c.args.lines.now c.args.base c.args.places.now (id_of c.args.label.now) (c.loop-left.left - 1) c.in-Some.at (place 0 0)
+    (sum_id c.args.label.now c.args.sum.now) c.requires (omega (arith, c.loop-left.invariant.0, c.loop-left-test.true)) c.in-Some.ensures.1 c.in-Some.ensures.0
+    c.index-lines-at.result c.index-lines-at.is (search rules) (λ j k d l from. c.loop-left.invariant.1 j k d l (omega (arith, from)))
+
+pub loop-left-preserved : goal.loop-left-preserved
+loop-left-preserved c = (
+  omega (arith, c.loop-left.invariant.0),
+  none_more (IsSumOf c.args.label.now c.args.sum.now) c.args.lines.now c.args.base c.args.places.now (c.loop-left.left - 1) (place 0 0)
+      (λ j k d l from. c.loop-left.invariant.1 j k d l (omega (arith, from))) (λ k l there short is_so. c.in_default.ensures k short there),
+)

@@ -1,0 +1,8 @@
+use Rattle.std.proofs.Common.{flat_map}
+use Rattle.std.specs.Fmt.{HasWritten, IsPlainFormatter}
+use Rattle.console.specs.Printing.{letter_bytes}
+use Rattle.console.proofs.text.write_text.Given as goal
+
+abbrev pub invariant-loop-letter : goal.invariant-loop-letter
+invariant-loop-letter g l =
+    IsPlainFormatter l.initial.f → HasWritten g.W.Write.write_str_gives l.initial.f (flat_map letter_bytes l.yielded) l.f

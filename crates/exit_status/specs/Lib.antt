@@ -1,2 +1,0 @@
--- Status: the numbers of the exit statuses.
-pub mod Status

@@ -1,8 +1,0 @@
-use Rattle.std.proofs.Common.{flat_map}
-use Rattle.std.specs.Fmt.{HasWritten, IsPlainFormatter}
-use Rattle.printable.specs.Printing.{line_letter_bytes}
-use Rattle.printable.proofs.lines.write_lines.Given as goal
-
-abbrev pub invariant-loop-letter : goal.invariant-loop-letter
-invariant-loop-letter g l =
-    IsPlainFormatter l.initial.f → HasWritten g.W.Write.write_str_gives l.initial.f (flat_map line_letter_bytes l.yielded) l.f

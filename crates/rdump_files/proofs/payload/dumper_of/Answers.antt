@@ -1,9 +1,0 @@
-use Rattle.std.proofs.Common.{subst, sym}
-use Rattle.rdump_files.specs.Payload.{IsRunsPayload}
-use Rattle.rdump_files.proofs.Payloads.{runs_payload}
-use Rattle.rdump_files.proofs.payload.dumper_of.Goals as goal
-
-pub new-requires : goal.new-requires
-new-requires g c =
-    let same = subst (λ p. IsRunsPayload c.args.run p) (sym c.new-source.ensures) c.requires in
-    runs_payload g.M.Medium.holds c.new-source.result c.args.run same

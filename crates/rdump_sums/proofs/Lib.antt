@@ -1,2 +1,0 @@
-pub mod ComparedCalls
-pub mod Lines

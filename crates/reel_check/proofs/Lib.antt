@@ -1,7 +1,0 @@
-mod Words
-pub mod Blocks
-pub mod OneHolding
-pub mod NextLength
-pub mod Others
-pub mod Telling
-pub mod ReelRuns

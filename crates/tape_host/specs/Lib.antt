@@ -1,6 +1,0 @@
--- In reading order: Servers (the server's side of each connection), Lying (reels), Turns (one
--- request each); Hosting (in memory).
-pub mod Servers
-pub mod Lying
-pub mod Hosting
-pub mod Turns

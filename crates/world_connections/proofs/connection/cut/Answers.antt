@@ -1,7 +1,0 @@
-use Rattle.std.proofs.Common.{refl}
-use Rattle.world_connections.specs.Connection.{severed}
-use Rattle.world_connections.proofs.Linked.{put_connection}
-use Rattle.world_connections.proofs.connection.cut.Goals as goal
-
-pub returns : goal.returns
-returns c = put_connection severed c.args.connections.now c.args.connection _ c.index-connections-connection.result c.requires.first c.requires.last refl
