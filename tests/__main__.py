@@ -26,7 +26,6 @@ from tests.lib.places import TOP
 from tests.lib.runner import Outcome
 
 CHECKS = TOP / "tests/checks"
-COUNTS = TOP / "out/counts.json"
 # The modules that take longest. They run first, so that none of them runs alone at the end.
 LONGEST = ("doors", "timeouts", "faults", "night", "refused", "catalog", "kills", "schedules", "recipes", "relay", "reels")
 PROGRAMS = ("rmtd", "rdump", "rsim")
@@ -50,10 +49,6 @@ class Ran(NamedTuple):
     def is_empty(self) -> bool:
         """Whether it came to its end, and had no test to run."""
         return self.came is not None and self.came.tests == 0 and not self.came.failed and not self.came.skipped
-
-    def passed(self) -> dict[str, dict[str, int]]:
-        """How often each comparison passed, by its test and its name."""
-        return self.came.passed if self.came else {}
 
     def skipped(self) -> list[str]:
         """The lines that name what could not be tried on this machine."""
@@ -103,9 +98,6 @@ def asked() -> argparse.Namespace:
     parser.add_argument("-k", action="append", default=[], metavar="PATTERN", dest="patterns", help="run only the tests with this in their names")
     parser.add_argument("--seed", type=int, help="the seed of random cases, as a failed test told it")
     parser.add_argument("--minutes", type=Path, help="the file to which the minutes are added, and the names of what was skipped")
-    parser.add_argument(
-        "--counts", type=Path, default=COUNTS, help="the file for the number of comparisons that passed, by module, test and name; out/counts.json"
-    )
     for name in PROGRAMS:
         parser.add_argument(f"--{name}", help=f"the program {name} to check; the one that make build leaves if this is not given")
     words = parser.parse_args()
@@ -142,8 +134,6 @@ def main() -> int:
     words = asked()
     set_environment(words)
     every = [*tried(words)]
-    words.counts.parent.mkdir(parents=True, exist_ok=True)
-    words.counts.write_text(json.dumps({it.check: it.passed() for it in every}, indent=1, sort_keys=True))
     tell(words.minutes, [line for it in every for line in it.skipped()])
     print(f"{sum(it.came.comparisons() for it in every if it.came)} comparisons passed")
     if not every:

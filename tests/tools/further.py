@@ -1,6 +1,6 @@
 """Tries the further edits: wrong bodies that the prover has to refuse, many in one check.
 
-    python3 -m tests.tools.further [--anew] [CRATE..]
+    python3 -m tests.tools.further [CRATE..]
 
 The edits that `rt ci` tries are crates/CRATE/must-fail/NAME.edit, and each costs it a check. All others are crates/CRATE/further/NAME.edit, written
 alike, with controls beside them too. `make edits` tries these, and first builds the libraries below that are not built as they are (build.py).
@@ -10,8 +10,7 @@ is tried again in a later lot. A lot that shows none is halved.
 
 A crate's lots run one after the other, over the libraries of the crates below, and each over what those before it proved of this crate: so each
 function that a lot needs is proved once. Only the functions that a lot changes and those that they call are checked. As many crates are tried at once
-as there are processors and memory for. What was refused over the same texts is kept on this machine after each lot, and not tried again
-(refusals.py); with --anew all are tried. It prints for each edit
+as there are processors and memory for. It prints for each edit
 
     refused         and why: the goals of a function that it changes which are not proved, or what is wrong with its proof
     NOT REFUSED     the functions that it changes are proved with it
@@ -32,15 +31,17 @@ import tempfile
 from concurrent.futures import ThreadPoolExecutor
 from itertools import takewhile
 from pathlib import Path
-from typing import Callable, NamedTuple
+from typing import NamedTuple
 
 from tests.lib.given import given
 from tests.lib.places import TOP
-from tests.tools import build, refusals
+from tests.tools import build
 from tests.tools.edits import REFUSED, WAITS, Pair, applied, changed_at, module_of, names_of, pairs, places_of, verdicts
 from tests.tools.machine import KEEPS_MEMORY, ShortOfMemory, Turns, checks_at_once, processors
 from tests.tools.proved import Checked, Libraries, Stale, Work
 
+# How every refusal begins, and nothing else that is said of an edit.
+WAS_REFUSED = "refused"
 # A function of a crate: its module, as a log writes it, and its name.
 Place = tuple[str, str]
 # What the prover says at last of what it read, and did not prove.
@@ -293,15 +294,13 @@ def shown(work: Work, edits: list[Edit], waits: Waits) -> dict[str, str]:
     return refused_of(edits, ran.log) or shown(work, edits[:half], waits) | shown(work, edits[half:], waits)
 
 
-def outcomes(work: Work, edits: list[Edit], keep: Callable[[dict[str, str]], None] = lambda _: None) -> dict[str, str]:
-    """What comes of each edit. Those that a lot does not show are tried in a later one. Has `keep` keep what each lot shows."""
+def outcomes(work: Work, edits: list[Edit]) -> dict[str, str]:
+    """What comes of each edit. Those that a lot does not show are tried in a later one."""
     found: dict[str, str] = {}
     waits: Waits = set()
     left = sorted(edits, key=lambda it: not it.is_local())
     while lot := lot_of(work.folder, left, waits):
-        now = shown(work, lot, waits)
-        keep(now)
-        found |= now
+        found |= shown(work, lot, waits)
         left = [it for it in left if it.name not in found]
     return found | dict.fromkeys((it.name for it in left), "BAD EDIT: it can't be applied")
 
@@ -315,50 +314,20 @@ def edit_of(crate: str, file: Path) -> Edit:
         return Edit(file.stem, changes, [], [])
 
 
-def can_be_applied(crate: str, file: Path) -> bool:
-    """Whether a further edit can be applied: the refusal that is kept was over the same texts, but for their comments."""
-    try:
-        return bool(applied(TOP / "crates" / crate, pairs(file.read_text(encoding="utf-8"))))
-    except (OSError, ValueError):
-        return False
-
-
 class Trial:
-    """The further edits of a crate, and what comes of each: first of those whose refusal is kept."""
+    """The further edits of a crate, and what comes of each."""
 
-    def __init__(self, crate: str, is_anew: bool = False) -> None:
+    def __init__(self, crate: str) -> None:
         self.crate = crate
         self.files = sorted(TOP.glob(f"crates/{crate}/further/*.edit"))
-        self.keys = self.keys_now()
-        self.found = (
-            {} if is_anew else {it.stem: said for it in self.files if (said := refusals.kept(self.keys[it.stem])) and can_be_applied(crate, it)}
-        )
-        self.kept = frozenset(self.found)
-
-    def keys_now(self) -> dict[str, str]:
-        """The names under which refusals are kept, as the files are now."""
-        crate_sum = refusals.sum_of_crate(self.crate)
-        return {it.stem: refusals.key_of(crate_sum, it) for it in self.files}
-
-    def left(self) -> list[Edit]:
-        """The edits that are to be tried."""
-        return [edit_of(self.crate, it) for it in self.files if it.stem not in self.found]
+        self.found: dict[str, str] = {}
 
     def size(self) -> int:
         """About how long it takes, beside other crates."""
-        return sum(it.stat().st_size for it in TOP.glob(f"crates/{self.crate}/src/**/*.rt")) * (1 + len(self.files) - len(self.kept))
-
-    def keep(self, found: dict[str, str]) -> None:
-        """Keeps what is refused, if no file was changed since it was read."""
-        now = self.keys_now()
-        for name, said in found.items():
-            if now[name] == self.keys[name]:
-                refusals.keep(now[name], said)
+        return sum(it.stat().st_size for it in TOP.glob(f"crates/{self.crate}/src/**/*.rt")) * (1 + len(self.files))
 
     def run(self, folder: Path, libraries: Libraries, turns: Turns) -> str:
-        """Tries what is left, keeps what is refused, and answers how many checks that took."""
-        if not self.left():
-            return "no checks"
+        """Tries the edits, and answers how many checks that took."""
         try:
             libraries.take(build.listed()[self.crate].uses)
         except Stale as why:
@@ -367,21 +336,20 @@ class Trial:
         size = self.size()
         work = Work(folder, self.crate, libraries, lambda: turns.turn(size))
         try:
-            self.found |= outcomes(work, self.left(), self.keep)
+            self.found = outcomes(work, [edit_of(self.crate, it) for it in self.files])
         except ShortOfMemory as why:
             self.give_up(str(why))
         work.remove()
         return f"{work.checks} checks, {work.seconds:.0f} seconds"
 
     def give_up(self, why: str) -> None:
-        """Says of each edit that is left why it was not tried."""
-        self.found |= {it: f"NOT TRIED: {why}" for it in self.keys if it not in self.found}
+        """Says of each edit why it was not tried."""
+        self.found = {it.stem: f"NOT TRIED: {why}" for it in self.files}
 
     def told(self, how: str) -> str:
         """What is printed."""
-        lines = [f"{self.crate}/{it}: {self.found[it]}{' (kept)' if it in self.kept else ''}" for it in sorted(self.found)]
-        tried = f", {len(self.kept)} of them kept" if self.kept else ""
-        return "\n".join([*lines, f"{self.crate}: {len(self.found)} further edits{tried}; {how}"])
+        lines = [f"{self.crate}/{it}: {self.found[it]}" for it in sorted(self.found)]
+        return "\n".join([*lines, f"{self.crate}: {len(self.found)} further edits; {how}"])
 
     def untold(self) -> list[str]:
         """The edits that were refused since a search gave up at a limit, and that have no line `# limit:`."""
@@ -389,23 +357,22 @@ class Trial:
         return [f"{self.crate}/{it.stem}" for it in at_limit if not TOLD.search(it.read_text(encoding="utf-8"))]
 
     def failed(self) -> int:
-        return sum(not it.startswith(refusals.REFUSED) for it in self.found.values())
+        return sum(not it.startswith(WAS_REFUSED) for it in self.found.values())
 
 
-def trials_of(crates: list[str], is_anew: bool = False) -> list[Trial]:
+def trials_of(crates: list[str]) -> list[Trial]:
     """The trials of these crates, or of all that have further edits."""
-    return [Trial(it, is_anew) for it in crates or sorted({it.parent.name for it in (TOP / "crates").glob("*/further")})]
+    return [Trial(it) for it in crates or sorted({it.parent.name for it in (TOP / "crates").glob("*/further")})]
 
 
 def try_all(trials: list[Trial], libraries: Libraries, turns: Turns) -> int:
-    """Tries what is left of these crates, and prints what comes of each edit as soon as its crate is done. Returns how many were not refused."""
+    """Tries the edits of these crates, and prints what comes of each edit as soon as its crate is done. Returns how many were not refused."""
     with tempfile.TemporaryDirectory(prefix="further-") as folder, ThreadPoolExecutor(max(1, len(trials))) as pool:
 
         def try_one(trial: Trial) -> None:
             print(trial.told(trial.run(Path(folder), libraries, turns)), flush=True)
 
         list(pool.map(try_one, trials))
-    refusals.forget_old()
     count, failed = sum(len(it.found) for it in trials), sum(it.failed() for it in trials)
     if untold := [name for it in trials for name in it.untold()]:
         print(f"a search gave up at a limit, and the edit has no line `# limit:`: {', '.join(untold)}")
@@ -415,14 +382,14 @@ def try_all(trials: list[Trial], libraries: Libraries, turns: Turns) -> int:
 
 def main() -> int:
     """Tries the further edits of the crates that are named, or of all, and fails where one is not refused."""
-    asked = [it for it in sys.argv[1:] if not it.startswith("--")]
+    asked = sys.argv[1:]
     wrong = [it for it in asked if not (TOP / "crates" / it / "further").is_dir()]
     if wrong:
         print(f"no further edits: {' '.join(wrong)}")
         return 2
     os.environ.update(KEEPS_MEMORY)
-    trials = trials_of(asked, "--anew" in sys.argv)
-    needed = sorted({name for it in trials if it.left() for name in build.listed()[it.crate].uses})
+    trials = trials_of(asked)
+    needed = sorted({name for it in trials for name in build.listed()[it.crate].uses})
     if build.build_all(needed, processors()):
         return 1
     with tempfile.TemporaryDirectory(prefix="libraries-") as folder:

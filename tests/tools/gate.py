@@ -30,7 +30,6 @@ from tests.lib.places import TOP
 from tests.tools import build, further
 from tests.tools.machine import CHECK, KEEPS_MEMORY, Turns, Watch, checks_at_once, free_memory, processors
 from tests.tools.proved import Libraries, Stale
-from tests.tools.refusals import REFUSED
 
 # The command that checks the programs from outside, and the programs.
 OUTSIDE = (sys.executable, "-m", "tests")
@@ -86,7 +85,7 @@ def rt_ci(jobs: int, libraries: Libraries) -> list[str]:
 
 def not_refused(trials: list[further.Trial]) -> list[str]:
     """The edits that were not refused, and what came of each."""
-    return [f"{it.crate}/{name}: {said}" for it in trials for name, said in sorted(it.found.items()) if not said.startswith(REFUSED)]
+    return [f"{it.crate}/{name}: {said}" for it in trials for name, said in sorted(it.found.items()) if not said.startswith(further.WAS_REFUSED)]
 
 
 def run_all(folder: Path, with_edits: bool) -> list[str]:

@@ -1,4 +1,4 @@
-"""Tests how further.py forms lots, reads logs and keeps refusals, with a made repository and a made prover."""
+"""Tests how further.py forms lots, and reads logs, with a made repository and a made prover."""
 
 from __future__ import annotations
 
@@ -6,11 +6,11 @@ import os
 import tempfile
 import time
 from pathlib import Path
-from typing import Callable, Iterable
+from typing import Iterable
 from unittest.mock import patch
 
 from tests.lib.case import Case
-from tests.tools import build, edits, further, machine, proved, refusals
+from tests.tools import build, edits, further, machine, proved
 from tests.tools.edits import Pair
 from tests.tools.further import Edit
 
@@ -74,13 +74,12 @@ def write_files(top: Path, files: dict[str, str]) -> None:
 
 
 class Made(Case):
-    """A made repository of two crates, one on the other, with an edit, in a temporary folder, and an empty folder for refusals."""
+    """A made repository of two crates, one on the other, with an edit, in a temporary folder."""
 
     def setUp(self) -> None:
         self.folder = Path(self.enterContext(tempfile.TemporaryDirectory(prefix="test-further-")))
         self.top = self.folder / "top"
-        self.enterContext(patch.dict(os.environ, {"XDG_CACHE_HOME": str(self.folder / "cache")}))
-        for module in (build, further, proved, refusals):
+        for module in (build, further, proved):
             self.enterContext(patch.object(module, "TOP", self.top))
         self.enterContext(patch.object(build, "CRATES", self.top / "crates"))
         self.enterContext(patch.object(build, "version", lambda: "a kit"))
@@ -282,78 +281,21 @@ class Logs(Case):
         self.same("the goal is told", further.why_not("words::list::List::enter", self.own + self.line), self.own.strip()[2:])
 
 
-class Keys(Made):
-    """Under which name the refusal of an edit is kept."""
-
-    def key(self) -> str:
-        return refusals.key_of(refusals.sum_of_crate("words"), self.top / "crates/words/further/counts_one_less.edit")
-
-    def test_what_decides(self) -> None:
-        """Whether a file with another text, or one more file, makes another key."""
-        source = "crates/words/src/lib.rt"
-        for name, text, decides in (
-            ("crates/words/further/counts_one_less.edit", "file: src/lib.rt\nold:         self.came\nnew:         self.came - 2\n", True),
-            (source, CRATE.replace("7", "8"), True),
-            (source, f"const A: u8 = 1; // A comment.\n{CRATE}", True),
-            (source, f"// A comment.\n\n{CRATE}", False),
-            ("crates/words/specs/Words.antt", "abbrev pub other : ℕ\n", True),
-            ("crates/words/proofs/More.antt", "more\n", True),
-            ("crates/words/out/made.antt", "made\n", False),
-            ("crates/other/src/lib.rt", "fn other() {}\n", True),
-            ("crates.txt", "other:\nwords: other\nabove: words\n", True),
-            ("HANDLES", "Handles allowed: Wait.\n", True),
-        ):
-            before = self.key()
-            write_files(self.top, {name: text})
-            self.same(f"another {name} has another key", self.key() != before, decides, text)
-            (self.top / name).unlink()
-            write_files(self.top, FILES)
-            self.same(f"the same {name} has the same", self.key(), before)
-        with patch.object(build, "version", lambda: "a later kit"):
-            self.holds("another kit has another key", self.key() != before)
-
-
-class Kept(Made):
-    """What is kept of refusals."""
-
-    def test_kept(self) -> None:
-        name = "0" * 64
-        refusals.keep(name, "NOT REFUSED")
-        self.same("what is not refused is not kept", refusals.kept(name), "")
-        refusals.keep(name, "refused: a goal")
-        self.same("a refusal is", refusals.kept(name), "refused: a goal")
-        for title, left in (
-            ("one that is damaged", f"{name}\nrefu".encode()),
-            ("one that is another's", f"{'1' * 64}\nrefused: a goal\n".encode()),
-            ("one that is no refusal", f"{name}\nNOT REFUSED\n".encode()),
-            ("one that is no text", b"\xff\xfe"),
-        ):
-            (refusals.place() / name).write_bytes(left)
-            self.same(f"{title} is not kept", refusals.kept(name), "")
-
-    def test_no_folder(self) -> None:
-        (self.folder / "cache").write_text("no folder")
-        refusals.keep("2" * 64, "refused: a goal")
-        refusals.forget_old()
-        self.same("a folder that can't be written is no error", refusals.kept("2" * 64), "")
-
-
 PROVED = proved.Checked(0, "only=1 proved=1")
 REFUSED = proved.Checked(1, "fn words::Words::count: not proved\nonly=1 proved=0")
 LIMITED = proved.Checked(1, f"note: src/lib.rt:5:1: it is not proved (`returns`); `search` {further.GAVE_UP}\n{REFUSED.log}")
 
 
 class Answering(proved.Work):
-    """A made crate whose checks all have one answer. Something else may happen meanwhile."""
+    """A made crate whose checks all have one answer."""
 
-    def __init__(self, answer: proved.Checked, meanwhile: Callable[[], object] = lambda: None) -> None:
-        self.answer, self.meanwhile = answer, meanwhile
+    def __init__(self, answer: proved.Checked) -> None:
+        self.answer = answer
         self.checks, self.seconds, self.folder = 1, 1.0, build.listed()["words"].folder()
         self.asked: list[list[str]] = []
 
     def check(self, changes: list[Pair], only: Iterable[str] = ()) -> proved.Checked:
         self.asked.append([*only])
-        self.meanwhile()
         return self.answer
 
     def remove(self) -> None:
@@ -361,7 +303,7 @@ class Answering(proved.Work):
 
 
 class Trials(Made):
-    """The edit of the made crate is tried, and what was refused is not tried again."""
+    """The edit of the made crate is tried."""
 
     def tried(self, work: Answering) -> further.Trial:
         """A trial of the crate, with these answers."""
@@ -370,23 +312,11 @@ class Trials(Made):
             trial.run(self.folder, proved.Libraries(self.folder), machine.Turns(1))
         return trial
 
-    def left(self, is_anew: bool = False) -> list[str]:
-        """The edits that a new trial has to try."""
-        return [it.name for it in further.Trial("words", is_anew).left()]
-
-    def test_what_is_kept(self) -> None:
-        work = Answering(PROVED)
-        trial = self.tried(work)
-        self.same("one that is proved fails", (trial.failed(), work.asked), (1, [["Words::count"]]), trial.found)
-        self.same("and is tried again", self.left(), ["counts_one_less"])
-        trial = self.tried(Answering(REFUSED))
-        self.same("one that is refused passes", trial.failed(), 0, trial.found)
-        again = further.Trial("words")
-        found = again.left(), again.failed(), "(kept)" in again.told("no checks")
-        self.same("and is not tried again", found, ([], 0, True), again.found)
-        self.same("but where all are asked for", self.left(is_anew=True), ["counts_one_less"])
-        (self.top / "crates/words/src/lib.rt").write_text(f"// Not {edits.pairs(trial.files[0].read_text())[0].old}\n{CRATE}")
-        self.same("nor counts what is kept where a comment makes it one that can't be applied", self.left(), ["counts_one_less"])
+    def test_what_fails(self) -> None:
+        for name, answer, failed in (("one that is proved fails", PROVED, 1), ("one that is refused passes", REFUSED, 0)):
+            work = Answering(answer)
+            trial = self.tried(work)
+            self.same(name, (trial.failed(), work.asked), (failed, [["Words::count"]]), trial.found)
 
     def test_refused_at_a_limit(self) -> None:
         trial = self.tried(Answering(LIMITED))
@@ -404,16 +334,6 @@ class Trials(Made):
             work = Answering(answer)
             found = beginnings(further.shown(work, [both], set()))
             self.same(name, (work.asked, found), (asked, {"both": wanted}))
-
-    def test_texts_that_change_meanwhile(self) -> None:
-        specs = self.top / "crates/words/specs/Words.antt"
-        changing = self.tried(Answering(REFUSED, lambda: specs.write_text("changed meanwhile\n")))
-        found = self.left(), refusals.kept(changing.keys["counts_one_less"])
-        self.same("nothing is kept of texts that changed meanwhile", found, (["counts_one_less"], ""))
-        self.tried(Answering(REFUSED))
-        self.same("and what was tried again is", self.left(), [])
-        (self.top / "crates/other/src/lib.rt").write_text("fn changed() {}\n")
-        self.same("but where a crate below changed", self.left(), ["counts_one_less"])
 
 
 class Libraries(Made):

@@ -73,8 +73,6 @@ class Gate(Made):
         self.same("`rt ci` is called once", self.called("rt ci"), ["rt ci"])
         found = self.called("rattle ")
         self.same("one check tries the edit, over the library below it", ["--extern other=" in it for it in found], [True], found)
-        failed, said = self.run_gate()
-        self.same("a refusal that is kept is not tried again", (failed, self.called("rattle ")), ([], found), said)
 
     def test_no_edits(self) -> None:
         failed, said = self.run_gate(with_edits=False)

@@ -1,15 +1,13 @@
-"""Tests which names and links imports.py and links.py find to lead nowhere, in made repositories, and how counts.py compares two files."""
+"""Tests which names and links imports.py and links.py find to lead nowhere, in made repositories."""
 
 from __future__ import annotations
 
-import json
 import tempfile
 from pathlib import Path
 from unittest.mock import patch
 
 from tests.lib.case import Case
 from tests.tools import imports, links
-from tests.tools.counts import compared, read
 from tests.tools.test_further import write_files
 
 LEMMAS = """-- told once: gone_since
@@ -37,9 +35,6 @@ ROWS = """| Call | A wrong body | {heading} |
 |---|---|---|
 | `open` | `opens` nothing | {cell} |
 """
-
-Tests = dict[str, dict[str, dict[str, int]]]
-BEFORE: Tests = {"rows": {"Rows.test_bytes": {"byte 17, alone": 2, "a rewind": 1}}, "stops": {"Stops.test_end": {"": 1}}}
 
 
 class Imports(Case):
@@ -110,21 +105,3 @@ class Links(Case):
         self.same("a crate without a row and one that is gone", found, ["no row has the crate high", "there is no crate middle"])
         wanted = ["there is no file H.md", "A.md has no heading #two"]
         self.same("links to a file and a heading", [*links.broken(self.folder / "A.md")], wanted)
-
-
-class Counts(Case):
-    """What is printed of two files of counts."""
-
-    def test_compared(self) -> None:
-        split = {"Rows.test_bytes": {"byte 18, alone": 1, "byte 0xff, alone": 1}, "Rows.test_rewind": {"a rewind": 1}}
-        fewer, more = {"Rows.test_bytes": {"byte 17, alone": 1, "a rewind": 1}}, {"Rows.test_bytes": {"byte 17, alone": 2, "a rewind": 3}}
-        lost, total = "       1        0  stops: Stops.test_end", "4 comparisons before,"
-        for name, after, lines in (
-            ("the same", BEFORE, [f"{total} 4 after"]),
-            ("other tests and other numbers", {**BEFORE, "rows": split}, [f"{total} 4 after"]),
-            ("one passed less often", {**BEFORE, "rows": fewer}, ["       2        1  rows: byte N, alone", f"{total} 3 after"]),
-            ("one in place of another", {**BEFORE, "stops": {"a": {"b": 1}}}, [lost, "       0        1  stops: b", f"{total} 4 after"]),
-            ("no module", {"rows": BEFORE["rows"]}, [lost, f"{total} 3 after"]),
-            ("one passed more often", {**BEFORE, "rows": more}, ["       1        3  rows: a rewind", f"{total} 6 after"]),
-        ):
-            self.same(name, compared(read(json.dumps(BEFORE)), read(json.dumps(after))), lines)
