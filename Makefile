@@ -60,7 +60,7 @@ texts: kit ## look at the documents, the edits and the Python, and test the tool
 	python3 -m tests.tools.links
 	python3 -m unittest -q $(TOOL_TESTS)
 
-bench: build ## long streams, reels in folders, dumps beside a floor, a long dumpdates file, a long reel and its sum, long schedules, and bytes in pieces; it ends with a table of ratios, which make bench JSON=FILE also writes to FILE as JSON
+bench: build ## long streams, reels in folders, dumps beside a floor over the loopback and over lines of 1 and 10 Gbit/s, long files, many reels, a long reel and its sum, long schedules, and bytes in pieces; it ends with a table of ratios and processor seconds, which make bench JSON=FILE also writes to FILE as JSON
 	@python3 -m tests.tools.build bench_feed
 	rm -f $(RATIOS)
 	python3 -m bench.stdio $(SERVER)

@@ -14,7 +14,7 @@ import tempfile
 from pathlib import Path
 
 from bench.stdio import LINEAR, Words, least_times
-from bench.told import ratio, ratio_of_times, seconds
+from bench.told import ratio_of_times
 
 BUILT = Path(__file__).resolve().parent.parent / "crates/rdump/out/rdump"
 
@@ -55,8 +55,7 @@ def measure(program: Path, folder: Path) -> bool:
         name = f"dates, {title}"
         beside_cat = ratio_of_times(f"{name} / cat", all_lines, cat)
         beside_wc = ratio_of_times(f"{name} / wc -l", all_lines, wc)
-        beside_half = (all_lines - no_lines) / (half_lines - no_lines)
-        ratio(f"{name} / half of the lines", beside_half, LINEAR, f"{seconds(all_lines - no_lines)} / {seconds(half_lines - no_lines)}")
+        beside_half = ratio_of_times(f"{name} / half of the lines", all_lines - no_lines, half_lines - no_lines, LINEAR)
         print(f"{title:<38}{beside_cat:>10.2f}{beside_wc:>12.2f}{beside_half:>16.2f}", flush=True)
     print(f"The file has {whole.stat().st_size:,} bytes. Beside half of it: without what a file of no lines takes.")
     print("About 2 for twice the lines says that the time grows with the lines, and no faster: it is linear.")

@@ -1,11 +1,9 @@
-"""Measures dumps over the loopback, beside `cat` of the same bytes through a socket pair, in the same run.
+"""Measures operations over the loopback, beside a plain echo of lines, and entries of dumps in long files, beside empty ones, in the same run.
 
     python3 -m bench.dump [RMTD [RDUMP]]
 
-It prints ratios of the least of several times, each with the start of the processes in it: a payload dumped in blocks of three sizes,
-the same with a catalog beside without one, and as much read back from a reel that a client of this file wrote; requests a second of an
-operation that does nothing, beside a plain echo of lines over TCP; the longest time between a request and its reply; and what memory the
-server held at most.
+It prints ratios of the least of several times: requests of an operation that does nothing, and the longest time between one and its reply; and
+dumps without bytes that are entered in a dumpdates file, and in a catalog, of 100,000 lines.
 """
 
 from __future__ import annotations
@@ -19,20 +17,24 @@ import sys
 import tempfile
 import time
 from contextlib import contextmanager
+from functools import partial
 from pathlib import Path
 from typing import Callable, Iterator
 
-from bench.told import ratio, ratio_of_times
-from bench.wire import BLOCKS, CLOSE, GREATEST_RECORD, MARK, NO_OPERATION, write
+from bench.list import DAY, dump
+from bench.times import Time, in_turns, timed
+from bench.told import ratio_of_times
+from bench.wire import CLOSE, GREATEST_RECORD, MARK, NO_OPERATION, write
 from tests.lib.given import given
 from tests.lib.places import CRATES
+from tests.models.catalog import Id
 
-ROUNDS = 5
 MIB = 1 << 20
-PAYLOAD = 256 * MIB
 ROOM = 320 * MIB
 OPERATIONS = 20_000
 DONE_ONE = b"A1\n"
+# How long the files are, and what an entry in one may take at most, in seconds.
+LINES, WANTED_ENTRY = 100_000, 0.05
 
 
 @contextmanager
@@ -55,51 +57,10 @@ def connected(address: str) -> socket.socket:
     return stream
 
 
-def timed(act: Callable[[], object]) -> float:
-    """The seconds of an act."""
-    began = time.perf_counter()
-    act()
-    return time.perf_counter() - began
-
-
 def most_memory(process: int) -> float:
     """The MiB that a process has held at most."""
     status = Path(f"/proc/{process}/status").read_text()
     return int(given(re.search(r"VmHWM:\s+(\d+)", status))[1]) / 1024
-
-
-def through_a_pair(path: Path) -> None:
-    """`cat` into one end of a socket pair, and `cat` out of the other."""
-    near, far = socket.socketpair()
-    with near, far, path.open("rb") as source:
-        with subprocess.Popen(("cat",), stdin=far.fileno(), stdout=subprocess.DEVNULL) as drain:
-            far.close()
-            subprocess.run(("cat",), stdin=source, stdout=near.fileno(), check=True)
-            near.close()
-            drain.wait()
-
-
-def dumped(rmtd: str, rdump: str, path: Path, block: int, *more: str) -> tuple[float, float]:
-    """The seconds of a dump, which has more words where these are given, and the MiB that the server held."""
-    words = (rdump, "dump", "--device", "/dev/st0", "--fs", "/usr", "--level", "0", "--payload", str(path), "--block", str(block))
-    with listening(rmtd) as (address, server):
-        whole = (*words, "--dumpdates", "/dev/null", "--to", address, *more)
-        seconds = timed(lambda: subprocess.run(whole, stdout=subprocess.DEVNULL, check=True))
-        return seconds, most_memory(server.pid)
-
-
-def with_catalog(rmtd: str, rdump: str, path: Path, block: int) -> None:
-    """The time of a dump with a catalog beside that of one without. They take turns, so that what else the machine does falls on both."""
-    catalog = path.with_name("catalog")
-    rounds = []
-    for _ in range(ROUNDS):
-        catalog.unlink(missing_ok=True)
-        rounds.append([dumped(rmtd, rdump, path, block, *more)[0] for more in (("--catalog", str(catalog)), ())])
-        if catalog.read_bytes().count(b"\n") != 3:
-            raise RuntimeError("a dump is not in its catalog")
-    summed, plain = (min(times) for times in zip(*rounds))
-    ratio_of_times(f"256 MiB dumped in blocks of {block:,} with a sum / without", summed, plain)
-    print(f"256 MiB in blocks of {block:,} bytes: dumped with a sum in {summed / plain:.2f} times the time without")
 
 
 def write_volume(address: str, path: Path, block: int) -> None:
@@ -119,19 +80,9 @@ def write_volume(address: str, path: Path, block: int) -> None:
                 raise RuntimeError("the server refused a request")
 
 
-def read_back(rmtd: str, rdump: str, path: Path, block: int) -> float:
-    """The least seconds of reading a volume."""
-    words = (rdump, "read", "--device", "/dev/st0", "--out", "/dev/null")
-    with listening(rmtd) as (address, _):
-        write_volume(address, path, block)
-        run = lambda: subprocess.run((*words, "--to", address), stdout=subprocess.DEVNULL, check=True)
-        return min(timed(run) for _ in range(ROUNDS))
-
-
-def asked(stream: socket.socket, text: bytes, reply: bytes) -> tuple[float, float]:
-    """The seconds of many requests, each after the reply to the one before, and the longest of them."""
-    longest = 0.0
-    began = last = time.perf_counter()
+def asked(stream: socket.socket, text: bytes, reply: bytes) -> float:
+    """Sends many requests, each after the reply to the one before, and answers the seconds of the longest of them."""
+    longest, last = 0.0, time.perf_counter()
     for _ in range(OPERATIONS):
         stream.sendall(text)
         got = b""
@@ -139,7 +90,7 @@ def asked(stream: socket.socket, text: bytes, reply: bytes) -> tuple[float, floa
             got += stream.recv(64)
         now = time.perf_counter()
         longest, last = max(longest, now - last), now
-    return last - began, longest
+    return longest
 
 
 def echo() -> str:
@@ -165,38 +116,62 @@ def operations(rmtd: str) -> None:
     with listening(rmtd) as (address, _), connected(address) as stream:
         stream.sendall(b"O/dev/st0\n0\n")
         stream.recv(64)
-        served, longest = min(asked(stream, NO_OPERATION, DONE_ONE) for _ in range(ROUNDS))
-    with connected(echo()) as stream:
-        plain, _ = min(asked(stream, NO_OPERATION, NO_OPERATION) for _ in range(ROUNDS))
+        longest: list[float] = []
+        with connected(echo()) as plain_stream:
+            served, plain = in_turns(
+                [
+                    partial(timed, lambda: longest.append(asked(stream, NO_OPERATION, DONE_ONE))),
+                    partial(timed, partial(asked, plain_stream, NO_OPERATION, NO_OPERATION)),
+                ]
+            )
     os.wait()
-    ratio_of_times("nop over TCP / an echo of lines", served / OPERATIONS, plain / OPERATIONS)
+    ratio_of_times(f"{OPERATIONS:,} nops over TCP / an echo of lines", served, plain)
     print(f"nop on one connection: {OPERATIONS / served:,.0f} a second, {served / plain:.2f} times the time of a plain echo;", end=" ")
-    print(f"the longest took {longest * 1000:.1f} ms")
+    print(f"the longest took {max(longest) * 1000:.1f} ms")
+
+
+def entries(rmtd: str, rdump: str, folder: Path) -> None:
+    """The time of a dump without bytes that is entered in a long file, beside one that is entered in empty files."""
+    payload, none = folder / "payload", folder / "none"
+    dumps = [dump(Id(f"/fs/{number}", number % 10, DAY + number, 0)) for number in range(LINES)]
+    dates, catalog = "".join(it.dates for it in dumps).encode(), b"".join(it.catalog for it in dumps[: -(-LINES // 3)])
+    payload.touch()
+
+    def entered(**texts: bytes) -> Time:
+        words = [rdump, "dump", "--device", "/dev/st0", "--fs", "/usr", "--level", "0", "--payload", str(payload), "--block", "1024", "--update"]
+        for name in ("dumpdates", "catalog"):
+            (folder / name).write_bytes(texts.get(name, b""))
+            words += [f"--{name}", str(folder / name)]
+        subprocess.run(("sync", *(str(folder / it) for it in ("dumpdates", "catalog"))), check=True)
+        with listening(rmtd) as (address, _):
+            seconds = timed(lambda: subprocess.run((*words, "--to", address), stdout=subprocess.DEVNULL, stderr=subprocess.DEVNULL, check=True))
+        for name, lines in (("dumpdates", 1), ("catalog", 3)):
+            if (folder / name).read_bytes().count(b"\n") != texts.get(name, b"").count(b"\n") + lines:
+                raise RuntimeError(f"a dump is not in its {name}")
+        return seconds
+
+    def copied(text: bytes) -> Time:
+        none.write_bytes(text)
+        return timed(lambda: subprocess.run(("sh", "-c", f"cat {none} > {none}2 && sync {none}2"), check=True))
+
+    long_ones: list[Callable[[], Time]] = [partial(entered, dumpdates=dates), partial(entered, catalog=catalog)]
+    empty, *times = in_turns([entered, *long_ones, partial(copied, dates), partial(copied, catalog)])
+    for name, long, copy in zip(("dumpdates", "a catalog"), times[:2], times[2:]):
+        title = f"a dump entered in {name} of {LINES:,} lines"
+        beside = ratio_of_times(f"{title} / in an empty one", long, empty)
+        ratio_of_times(f"{title}, beyond an empty one / cat and sync", long - empty, copy)
+        ratio_of_times(f"{title}, beyond an empty one / {WANTED_ENTRY * 1000:.0f} ms", long - empty, WANTED_ENTRY, 1.0)
+        print(f"{title}: {beside:.2f} times the time of an empty one, {(long - empty) * 1000:.1f} ms more; cat and sync: {copy * 1000:.1f} ms")
 
 
 def main() -> int:
-    parser = argparse.ArgumentParser(description="Measures dumps over the loopback.")
+    parser = argparse.ArgumentParser(description="Measures operations, and entries of dumps.")
     parser.add_argument("rmtd", nargs="?", default=str(CRATES / "rmtd/out/rmtd"))
     parser.add_argument("rdump", nargs="?", default=str(CRATES / "rdump/out/rdump"))
     programs = parser.parse_args()
-    with tempfile.TemporaryDirectory() as folder:
-        path = Path(folder) / "payload"
-        with path.open("wb") as file:
-            for _ in range(PAYLOAD // MIB):
-                file.write(os.urandom(MIB))
-        floor = min(timed(lambda: through_a_pair(path)) for _ in range(ROUNDS))
-        for block in BLOCKS:
-            rounds = [dumped(programs.rmtd, programs.rdump, path, block) for _ in range(ROUNDS)]
-            seconds = min(it[0] for it in rounds)
-            told = f"{PAYLOAD / seconds / 1e6:,.0f} MB/s; server {rounds[0][1]:.0f} MiB"
-            ratio(f"256 MiB dumped in blocks of {block:,} / cat", seconds / floor, None, told)
-            print(f"256 MiB in blocks of {block:,} bytes: dumped in {seconds / floor:.1f} times the time of cat;", end=" ")
-            print(f"server {rounds[0][1]:.0f} MiB at most")
-            with_catalog(programs.rmtd, programs.rdump, path, block)
-            seconds = read_back(programs.rmtd, programs.rdump, path, block)
-            ratio(f"256 MiB read back in blocks of {block:,} / cat", seconds / floor, None, f"{PAYLOAD / seconds / 1e6:,.0f} MB/s")
-            print(f"256 MiB in blocks of {block:,} bytes: read back in {seconds / floor:.1f} times the time of cat")
     operations(programs.rmtd)
+    with tempfile.TemporaryDirectory(prefix="rmtd-bench-") as folder:
+        entries(programs.rmtd, programs.rdump, Path(folder))
     return 0
 
 

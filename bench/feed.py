@@ -13,7 +13,7 @@ import sys
 from pathlib import Path
 
 from bench.stdio import LINEAR, Words, least_times
-from bench.told import ratio, seconds
+from bench.told import ratio, ratio_of_times
 from bench.wire import GREATEST_RECORD
 
 BUILT = Path(__file__).resolve().parent.parent / "crates/bench_feed/out/bench_feed"
@@ -46,7 +46,7 @@ def ratios(program: str, kind: str, title: str) -> str:
     single = once - none
     one_piece = MORE * single / (whole - none)
     nanoseconds = single / (FEW * GREATEST_RECORD) * 1e9
-    ratio(f"fed {title} / half of them", (twice - none) / single, LINEAR, f"{seconds(twice - none)} / {seconds(single)}")
+    ratio_of_times(f"fed {title} / half of them", twice - none, single, LINEAR)
     ratio(f"fed {title} / in one piece", one_piece, None, f"{nanoseconds:.0f} ns a byte")
     return f"{title:<36}{(twice - none) / single:>16.2f}{single / (pairs - none):>20.2f}{one_piece:>16.0f}{nanoseconds:>12.0f}"
 

@@ -2,22 +2,23 @@
 
     python3 -m bench.list [PROGRAM]
 
-Each reel has a dump of its own, of one volume without blocks. It prints processor seconds, those of the system among them, and ratios of the
-least of several of them: with lines beside without, and twice as many reels beside half of them.
+Each reel has a dump of its own, of one volume without blocks. It prints ratios of the least of several times: with lines beside
+without, without beside `cat` of the reels, and twice as many reels beside half of them.
 """
 
 from __future__ import annotations
 
 import argparse
-import os
 import subprocess
 import sys
 import tempfile
 from datetime import datetime, timezone
+from functools import partial
 from pathlib import Path
 from typing import NamedTuple, Sequence
 
 from bench.stdio import Words
+from bench.times import Time, in_turns, timed
 from bench.told import ratio_of_times, seconds
 from tests.lib.listings import Label
 from tests.models.catalog import Begun, Counted, Finished, Id, sum_of
@@ -47,31 +48,36 @@ def date_text(date: int) -> str:
     return f"{datetime.fromtimestamp(date, timezone.utc):%a %b %e %H:%M:%S %Y}"
 
 
+class Dump(NamedTuple):
+    """The record file of a dump's only volume, and its lines of dumpdates and of the catalog, three of these."""
+
+    reel: bytes
+    dates: str
+    catalog: bytes
+
+
+def dump(id: Id) -> Dump:
+    """A dump of a volume without blocks."""
+    reel = images([Label(*id, 1, 0).record(), None])
+    lines = Begun(id, 0).text() + Counted(id, sum_of(reel), 1, 0, 0, 0, len(reel)).text() + Finished(id, 1, 0, BLOCK, 0).text()
+    return Dump(reel, f"{id.name:<32} {id.level} {date_text(id.date)}\n", lines)
+
+
 def shelf(folder: Path, size: int) -> Shelf:
     """Makes so many reels, and as many lines of dumpdates. The catalog has three lines of each dump."""
     made = Shelf(size, folder / f"reels{size}", folder / f"dates{size}", folder / f"catalog{size}")
     made.reels.mkdir()
-    lines: list[Begun | Counted | Finished] = []
-    dates: list[str] = []
-    for number in range(size):
-        id = Id(f"/fs/{number * 7919 % size}", number % 10, DAY + number, 0)
-        reel = images([Label(*id, 1, 0).record(), None])
-        (made.reels / f"r{number}").write_bytes(reel)
-        dates.append(f"{id.name:<32} {id.level} {date_text(id.date)}\n")
-        lines += (Begun(id, 0), Counted(id, sum_of(reel), 1, 0, 0, 0, len(reel)), Finished(id, 1, 0, BLOCK, 0))
-    made.dates.write_text("".join(dates))
-    made.catalog.write_bytes(b"".join(line.text() for line in lines))
+    dumps = [dump(Id(f"/fs/{number * 7919 % size}", number % 10, DAY + number, 0)) for number in range(size)]
+    for number, it in enumerate(dumps):
+        (made.reels / f"r{number}").write_bytes(it.reel)
+    made.dates.write_text("".join(it.dates for it in dumps))
+    made.catalog.write_bytes(b"".join(it.catalog for it in dumps))
     return made
 
 
-def processor_seconds(words: Words) -> float:
-    """The processor seconds of a program that ends well, those of the system among them."""
-    with subprocess.Popen(words, stdin=subprocess.DEVNULL, stdout=subprocess.DEVNULL) as process:
-        _, status, used = os.wait4(process.pid, 0)
-        process.returncode = os.waitstatus_to_exitcode(status)
-    if process.returncode:
-        raise SystemExit(f"{' '.join(words)} ended with {process.returncode}")
-    return float(used.ru_utime + used.ru_stime)
+def run(words: Words) -> None:
+    """Runs a program, which has to end well."""
+    subprocess.run(words, stdin=subprocess.DEVNULL, stdout=subprocess.DEVNULL, check=True)
 
 
 def forms(program: Path, it: Shelf) -> dict[str, Words]:
@@ -81,28 +87,32 @@ def forms(program: Path, it: Shelf) -> dict[str, Words]:
         "ls": plain,
         "ls --dumpdates": (*plain, "--dumpdates", str(it.dates)),
         "ls --catalog": (*plain, "--catalog", str(it.catalog)),
+        "cat": ("find", str(it.reels), "-type", "f", "-exec", "cat", "{}", "+"),
     }
 
 
-def least_of(program: Path, it: Shelf) -> dict[str, float]:
-    """The least processor seconds of each way. The ways take turns."""
-    rounds = [{title: processor_seconds(words) for title, words in forms(program, it).items()} for _ in range(REPEATS)]
-    return {title: min(times[title] for times in rounds) for title in rounds[0]}
+def least_of(program: Path, it: Shelf) -> dict[str, Time]:
+    """The least time of each way."""
+    ways = forms(program, it)
+    return dict(zip(ways, in_turns([partial(timed, partial(run, words)) for words in ways.values()], REPEATS)))
 
 
 def measure(program: Path, folder: Path, counts: Sequence[int]) -> None:
     """Prints the table."""
-    print(f"{'processor seconds of':<22}{'reels':>8}{'time':>12}{'to ls':>8}{'to half':>9}")
-    of_count: dict[int, dict[str, float]] = {}
+    print(f"{'time of':<22}{'reels':>8}{'time':>12}{'processor':>12}{'to cat':>8}{'to ls':>8}{'to half':>9}")
+    of_count: dict[int, dict[str, Time]] = {}
     for count in counts:
-        of_count[count] = least_of(program, shelf(folder, count))
-        for title, time in of_count[count].items():
+        times = of_count[count] = least_of(program, shelf(folder, count))
+        cat = times.pop("cat")
+        for title, time in times.items():
+            beside_cat = f"{ratio_of_times(f'{title}, {count:,} reels / cat', time, cat):.2f}"
             beside, twice = "", ""
             if title != "ls":
-                beside = f"{ratio_of_times(f'{title}, {count:,} reels / ls', time, of_count[count]['ls'], WANTED_OF_LINES):.2f}"
+                beside = f"{ratio_of_times(f'{title}, {count:,} reels / ls', time, times['ls'], WANTED_OF_LINES):.2f}"
             if half := of_count.get(count // 2):
                 twice = f"{ratio_of_times(f'{title}, {count:,} reels / half of them', time, half[title], WANTED_OF_TWICE):.2f}"
-            print(f"{title:<22}{count:>8,}{seconds(time):>12}{beside:>8}{twice:>9}", flush=True)
+            row = f"{title:<22}{count:>8,}{seconds(time):>12}{seconds(time.processor):>12}"
+            print(f"{row}{beside_cat:>8}{beside:>8}{twice:>9}", flush=True)
 
 
 def main() -> int:

@@ -3,13 +3,14 @@
     python3 -m bench.network [RMTD [RDUMP]] [--mib N]
 
 It prints ratios of the least of several times, each with the start of the clients in it: `rdump dump` and `rdump read` with a server that has a reel
-in memory, and with one that has it in a folder; and 32 of them at once, each with a drive of its own. Where there is a folder, `rdump fetch` stands
-beside the floor's read. Then dumps over TCP and over a Unix socket, without and with limits of time at both ends (--idle, --timeout), each beside the
-same floor, which is over TCP. Then what memory the server holds for 32 clients, and what a client holds. A time into a folder is up to when the bytes
-are synced. The files stand in the temporary folder.
+in memory, also over lines of 1 and 10 Gbit/s, and with one that has it in a folder; and 32 of them at once, each with a drive of its own. If the reel
+is in memory, it also prints a dump beside `cat` over the same line, and a dump with a catalog beside one without and beside `sha256sum`. If there is
+a folder, it prints `rdump fetch` beside the floor's read. Then dumps over TCP and over a Unix socket, without and with limits of time at both ends
+(--idle, --timeout), each beside the same floor, which is over TCP. Then what memory the server holds for 32 clients, and what a client holds. A time
+into a folder is up to when the bytes are synced. The files are in the temporary folder. With each time are the processor seconds of both ends.
 
-The floor is `netfloor.c`: a client and a server of one block a turn with few calls of the system, and both trust what comes. It is built where
-there is a C compiler.
+The floor is `netfloor.c`: a client and a server of one block a turn with few calls of the system, and both trust what comes. `relay.c` is a line of a
+given rate; its own processor seconds are left out. Both are built where there is a C compiler.
 """
 
 from __future__ import annotations
@@ -18,6 +19,7 @@ import argparse
 import os
 import re
 import shutil
+import socket
 import subprocess
 import sys
 import tempfile
@@ -27,16 +29,18 @@ from functools import partial
 from pathlib import Path
 from typing import Callable, ContextManager, Iterator, NamedTuple, Sequence, Union
 
-from bench.dump import connected, listening, most_memory, timed, write_volume
+from bench.dump import connected, listening, most_memory, write_volume
+from bench.times import ROUNDS, Time, in_turns, timed
 from bench.told import ratio, ratio_of_times
 from bench.wire import BLOCKS, GREATEST_RECORD, LABEL, write
 from tests.lib.given import given
 from tests.lib.places import CRATES
 
-FLOOR = Path(__file__).resolve().parent / "netfloor.c"
+HERE = Path(__file__).resolve().parent
 
-ROUNDS = 7
 MIB = 1 << 20
+# The bytes a second of a line of 1 Gbit/s.
+GIGABIT = 125_000_000
 AT_ONCE = 32
 # What is wanted at most, beside the floor, of a folder.
 WANTED = 1.25
@@ -86,19 +90,44 @@ def blocks(source: Path, block: int) -> Iterator[bytes]:
             yield data.ljust(block, b"\0")
 
 
-class Way(NamedTuple):
-    """Where the server listens, and whether each wait has a limit at both ends."""
+class Line(NamedTuple):
+    """What is between a client and its server on the loopback: a relay that lets so many bytes a second pass, or nothing."""
 
-    title: str
-    at: str
+    relay: str = ""
+    rate: int = 0
+
+    @contextmanager
+    def to(self, address: str) -> Iterator[str]:
+        """Where a client of this address connects."""
+        if not self.rate:
+            yield address
+            return
+        host, colon, port = address.rpartition(":")
+        with subprocess.Popen((self.relay, port, str(self.rate)), stdout=subprocess.PIPE) as relay:
+            try:
+                yield host + colon + given(relay.stdout).readline().decode().strip()
+            finally:
+                relay.kill()
+
+
+class Way(NamedTuple):
+    """Where the server listens, whether each wait has a limit at both ends, the line between them, and a catalog that dumps are entered in."""
+
+    title: str = "over TCP"
+    at: str = "127.0.0.1:0"
     limit: str = ""
+    line: Line = Line()
+    catalog: Path | None = None
 
 
 class Programs:
     """The server and the client that are measured."""
 
-    def __init__(self, rmtd: str, rdump: str, way: Way = Way("TCP", "127.0.0.1:0")) -> None:
+    def __init__(self, rmtd: str, rdump: str, way: Way = Way()) -> None:
         self.rmtd, self.rdump, self.way = rmtd, rdump, way
+
+    def by(self, way: Way) -> Programs:
+        return Programs(self.rmtd, self.rdump, way)
 
     def listening(self, reels: Reels) -> ContextManager[tuple[str, subprocess.Popen[bytes]]]:
         """A server of these reels, and its address."""
@@ -109,13 +138,14 @@ class Programs:
     @contextmanager
     def serving(self, reels: Reels) -> Iterator[list[str]]:
         """The address of a server, once for each drive."""
-        with self.listening(reels) as (address, _):
-            yield [address] * reels.count
+        with self.listening(reels) as (address, _), self.way.line.to(address) as near:
+            yield [near] * reels.count
 
     def writes(self, address: str, number: int, source: Path, block: int) -> Words:
         words = (self.rdump, "dump", "--to", address, "--device", f"/dev/st{number}", "--fs", "/usr", "--level", "0")
         limit = ("--timeout", self.way.limit) if self.way.limit else ()
-        return (*words, *limit, "--payload", str(source), "--block", str(block), "--dumpdates", "/dev/null")
+        catalog = ("--catalog", str(self.way.catalog)) if self.way.catalog else ()
+        return (*words, *limit, *catalog, "--payload", str(source), "--block", str(block), "--dumpdates", "/dev/null")
 
     def reads(self, address: str, number: int, out: Path) -> Words:
         return (self.rdump, "read", "--to", address, "--device", f"/dev/st{number}", "--out", str(out))
@@ -131,8 +161,8 @@ class Programs:
 class Floor:
     """A server and a client for each connection, which do what has to be done, and no more."""
 
-    def __init__(self, program: str) -> None:
-        self.program = program
+    def __init__(self, program: str, line: Line = Line()) -> None:
+        self.program, self.line = program, line
 
     @contextmanager
     def serving(self, reels: Reels) -> Iterator[list[str]]:
@@ -140,7 +170,9 @@ class Floor:
         words = [(self.program, "serve", path) for path in [str(it) for it in reels.paths] or ["-"]]
         servers = [subprocess.Popen(it, stdout=subprocess.PIPE) for it in words]
         try:
-            yield [given(it.stdout).readline().decode().strip() for it in servers]
+            ports = [given(it.stdout).readline().decode().strip() for it in servers]
+            with ExitStack() as lines:
+                yield [lines.enter_context(self.line.to(it)) for it in ports]
         finally:
             for it in servers:
                 it.kill()
@@ -160,12 +192,12 @@ class Floor:
 Ends = Union[Programs, Floor]
 
 
-def built_floor(folder: Path) -> Floor | None:
-    """Builds the floor; None where no C compiler builds it."""
-    compiler, program = shutil.which("cc"), str(folder / "netfloor")
-    if not compiler or subprocess.run((compiler, "-O2", "-o", program, str(FLOOR)), check=False).returncode:
+def built(folder: Path, name: str) -> str | None:
+    """Builds a program of a C file here; None where no C compiler builds it."""
+    compiler, program = shutil.which("cc"), str(folder / name)
+    if not compiler or subprocess.run((compiler, "-O2", "-o", program, str(HERE / f"{name}.c")), check=False).returncode:
         return None
-    return Floor(program)
+    return program
 
 
 def run_all(clients: Sequence[Words]) -> None:
@@ -175,6 +207,18 @@ def run_all(clients: Sequence[Words]) -> None:
         raise RuntimeError(f"{clients[0][0]} failed")
 
 
+def by_cat(source: Path, line: Line) -> Time:
+    """The time of `cat` into one end of a connection, and `cat` out of the other."""
+    with socket.create_server(("127.0.0.1", 0)) as listener, line.to("127.0.0.1:%d" % listener.getsockname()[1]) as address:
+        near, (far, _) = connected(address), listener.accept()
+
+        def both() -> None:
+            with far, subprocess.Popen(("cat",), stdin=far.fileno(), stdout=subprocess.DEVNULL), near:
+                subprocess.run(("cat", str(source)), stdout=near.fileno(), check=True)
+
+        return timed(both)
+
+
 class Load(NamedTuple):
     """What each client dumps, in blocks of this size, and where the volumes stand."""
 
@@ -182,14 +226,14 @@ class Load(NamedTuple):
     block: int
     reels: Reels
 
-    def written(self, ends: Ends) -> float:
+    def written(self, ends: Ends) -> Time:
         """The seconds of dumps to empty reels."""
         self.reels.wipe()
         with ends.serving(self.reels) as addresses:
             clients = [ends.writes(address, number, self.source, self.block) for number, address in enumerate(addresses)]
             return timed(lambda: run_all(clients))
 
-    def fetched(self, programs: Programs, into: Path) -> float:
+    def fetched(self, programs: Programs, into: Path) -> Time:
         """The seconds of copying volumes into new folders, after which the reels are in the bin."""
         self.reels.fill(self.source, self.block)
         folders = [into / str(number) for number in range(self.reels.count)]
@@ -201,7 +245,7 @@ class Load(NamedTuple):
         shutil.rmtree(into)
         return seconds
 
-    def read(self, clients: list[Words], outs: list[Path]) -> float:
+    def read(self, clients: list[Words], outs: list[Path]) -> Time:
         """The seconds of reading volumes into new files, which get their bytes, and may get their labels."""
         for it in outs:
             it.unlink(missing_ok=True)
@@ -212,7 +256,7 @@ class Load(NamedTuple):
         return seconds
 
     @contextmanager
-    def reading(self, ends: Ends, outs: list[Path]) -> Iterator[Callable[[], float]]:
+    def reading(self, ends: Ends, outs: list[Path]) -> Iterator[Callable[[], Time]]:
         """A server of volumes, and what answers the seconds of reading them."""
         with ends.serving(self.reels) as addresses:
             if not self.reels.folder:
@@ -221,37 +265,51 @@ class Load(NamedTuple):
             yield lambda: self.read(clients, outs)
 
 
-def in_turns(acts: Sequence[Callable[[], float]]) -> list[float]:
-    """The least seconds of each act. They take turns, so that what else the machine does falls on all of them."""
-    return [min(times) for times in zip(*([act() for act in acts] for _ in range(ROUNDS)))]
-
-
-def measure(title: str, load: Load, programs: Programs, floor: Floor, folder: Path, wanted: float | None) -> None:
+def measure(title: str, load: Load, ends: tuple[Programs, Floor], folder: Path, wanted: float | None) -> None:
     """Prints the lines of dumps and of volumes that are read back."""
-    size = load.source.stat().st_size * load.reels.count
-    both: tuple[Ends, Ends] = (programs, floor)
-    dumps = in_turns([partial(load.written, ends) for ends in both])
-    tell(f"dumped into {title}, blocks of {load.block:,}", dumps, size, wanted)
+    size, programs = load.source.stat().st_size * load.reels.count, ends[0]
+    line, name = programs.way.line, f"dumped into {title}, blocks of {load.block:,}"
+    acts: list[Callable[[], Time]] = [partial(load.written, ends[0]), partial(load.written, ends[1])]
+    if not load.reels.folder:
+        catalog = folder / "catalog"
+        catalog.unlink(missing_ok=True)
+        acts += [partial(load.written, programs.by(programs.way._replace(catalog=catalog))), partial(by_cat, load.source, line)]
+        acts.append(partial(timed, partial(run_all, [("sha256sum", str(load.source))])))
+    ours, floor, *others = in_turns(acts)
+    tell(name, "the floor", ours, floor, size, wanted)
+    if others:
+        summed, cat, sums = others
+        tell(name, "cat", ours, cat, size)
+        tell(f"{name}, with --catalog", "without", summed, ours, size)
+        tell(f"{name}, with --catalog", "sha256sum", summed, sums, size)
+        if line.rate:
+            tell(f"cat over {line.rate // GIGABIT} Gbit/s", "at this rate", cat, size / line.rate, size)
+        if catalog.read_bytes().count(b"\n") != 3 * ROUNDS:
+            raise RuntimeError("a dump is not in its catalog")
     if load.reels.folder:
         load.reels.fill(load.source, load.block)
     outs = [folder / f"out{number}" for number in range(load.reels.count)]
     with ExitStack() as servers:
-        by_one = [servers.enter_context(load.reading(ends, outs)) for ends in both]
-        reads = in_turns(by_one)
-        tell(f"read back from {title}, blocks of {load.block:,}", reads, size, wanted)
+        both: tuple[Ends, Ends] = ends
+        ours, floor = in_turns([servers.enter_context(load.reading(it, outs)) for it in both])
+    name = f"read back from {title}, blocks of {load.block:,}"
+    tell(name, "the floor", ours, floor, size, wanted)
+    if others:
+        tell(name, "cat", ours, others[1], size)
     for it in outs:
         it.unlink()
     # Several reels have one name, and the bin takes one of them.
     if load.reels.folder and load.reels.count == 1:
-        fetches = in_turns([partial(load.fetched, programs, folder / "into")])
-        tell(f"fetched from {title}, blocks of {load.block:,}", [*fetches, reads[1]], size, None)
+        (fetched,) = in_turns([partial(load.fetched, programs, folder / "into")])
+        tell(f"fetched from {title}, blocks of {load.block:,}", "the floor", fetched, floor, size)
 
 
-def tell(title: str, times: list[float], size: int, wanted: float | None) -> None:
-    ours, floor = times
-    ratio_of_times(f"network, {title} / the floor", ours, floor, wanted)
+def tell(title: str, other: str, ours: Time, theirs: float, size: int, wanted: float | None = None) -> None:
+    name = f"{title} / {other}"
+    ratio_of_times(f"network, {name}", ours, theirs, wanted)
     told = f"{wanted:.2f}" if wanted else "-"
-    print(f"{title:<56}{ours / floor:>10.2f}{told:>10}{size / ours / MIB:>10,.0f}{size / floor / MIB:>10,.0f}", flush=True)
+    spent = "".join(f"{it.processor if isinstance(it, Time) else 0:>10.3f}" for it in (ours, theirs))
+    print(f"{name:<80}{ours / theirs:>8.2f}{told:>8}{size / ours / MIB:>8,.0f}{size / theirs / MIB:>8,.0f}{spent}", flush=True)
 
 
 def payload(path: Path, size: int) -> Path:
@@ -262,16 +320,19 @@ def payload(path: Path, size: int) -> Path:
     return path
 
 
-def measure_all(programs: Programs, floor: Floor, folder: Path, mib: int) -> None:
+def measure_all(programs: Programs, floor: Floor, relay: str, folder: Path, mib: int) -> None:
     whole, part = payload(folder / "whole", mib * MIB), payload(folder / "part", max(1, mib // AT_ONCE) * MIB)
-    print(f"{'time over the loopback':<56}{'to floor':>10}{'wanted':>10}{'MiB/s':>10}{'floor':>10}")
-    for title, reels, source, wanted in (
-        ("memory", Reels(None), whole, None),
-        ("a folder", Reels(folder / "one"), whole, WANTED),
-        (f"{AT_ONCE} folders at once", Reels(folder / "many", AT_ONCE), part, WANTED),
+    print(f"{'time over the loopback / beside':<80}{'ratio':>8}{'wanted':>8}{'MiB/s':>8}{'beside':>8}{'processor':>10}{'beside':>10}")
+    for title, rate, reels, source, wanted in (
+        ("memory", 0, Reels(None), whole, None),
+        ("memory over 1 Gbit/s", GIGABIT, Reels(None), whole, None),
+        ("memory over 10 Gbit/s", 10 * GIGABIT, Reels(None), whole, None),
+        ("a folder", 0, Reels(folder / "one"), whole, WANTED),
+        (f"{AT_ONCE} folders at once", 0, Reels(folder / "many", AT_ONCE), part, WANTED),
     ):
+        line = Line(relay, rate)
         for block in BLOCKS:
-            measure(title, Load(source, block, reels), programs, floor, folder, wanted)
+            measure(title, Load(source, block, reels), (programs.by(Way(line=line)), Floor(floor.program, line)), folder, wanted)
         if reels.folder:
             shutil.rmtree(reels.folder)
 
@@ -280,18 +341,18 @@ def measure_ways(programs: Programs, floor: Floor, folder: Path, mib: int) -> No
     """Prints the lines of dumps into a folder over each kind of socket, without and with limits. All take turns, so they can be compared."""
     socket = f"unix:{folder}/socket"
     ways = (
-        Way("over TCP", "127.0.0.1:0"),
-        Way("over TCP, with limits", "127.0.0.1:0", "3600"),
+        Way(),
+        Way("over TCP, with limits", limit="3600"),
         Way("over a Unix socket", socket),
         Way("over a Unix socket, with limits", socket, "3600"),
     )
     source, drives = payload(folder / "way_source", mib * MIB), folder / "ways"
     for block in BLOCKS:
         load = Load(source, block, Reels(drives))
-        ends: list[Ends] = [Programs(programs.rmtd, programs.rdump, way) for way in ways]
+        ends: list[Ends] = [programs.by(way) for way in ways]
         *ours, least = in_turns([partial(load.written, it) for it in (*ends, floor)])
         for way, seconds in zip(ways, ours):
-            tell(f"dumped {way.title}, blocks of {block:,}", [seconds, least], source.stat().st_size, WANTED)
+            tell(f"dumped {way.title}, blocks of {block:,}", "the floor", seconds, least, source.stat().st_size, WANTED)
     shutil.rmtree(drives)
     source.unlink()
 
@@ -349,10 +410,10 @@ def main() -> int:
     print(f"Ratios of this run, of the least of {ROUNDS} times each.\n")
     with tempfile.TemporaryDirectory(prefix="rmtd-bench-") as name:
         folder = Path(name)
-        floor = built_floor(folder)
-        if floor:
-            measure_all(programs, floor, folder, words.mib)
-            measure_ways(programs, floor, folder, words.mib)
+        floor, relay = built(folder, "netfloor"), built(folder, "relay")
+        if floor and relay:
+            measure_all(programs, Floor(floor), relay, folder, words.mib)
+            measure_ways(programs, Floor(floor), folder, words.mib)
         else:
             print("skipped: there is no C compiler on this machine, and so no floor")
         measure_memory(programs, folder)

@@ -3,9 +3,9 @@
     python3 -m bench.reels [PROGRAM] [--mib N]
 
 It prints ratios of the least of several times, each with the start of a process in it: 256 MiB written to a file, and read back; spacing
-over many records beside over half of them; one operation at the end of a reel of 1 GiB beside one at its beginning. Then what memory the
-server held at most, and, where `strace` is there, how many calls of the system an append takes. All bytes stand in files in the temporary
-folder, up to 1 GiB of them at once.
+over many records beside over half of them, and over many marks; one operation at the end of a reel of 1 GiB beside one at its beginning.
+Then what memory the server held at most, and, where `strace` is there, how many calls of the system an append takes. All bytes stand in
+files in the temporary folder, up to 1 GiB of them at once.
 
 The floor is `floor.c`, which carries requests out one at a time with few calls of the system, and trusts its input. It is built where there
 is a C compiler.
@@ -21,11 +21,13 @@ import subprocess
 import sys
 import tempfile
 from collections import Counter
+from functools import partial
 from pathlib import Path
 from typing import Callable, Iterable, NamedTuple, Sequence
 
-from bench.stdio import BUILT, LINEAR, SAME, Words, from_file, gnu_rmt, kilobytes, seconds_of
-from bench.told import ratio, ratio_of_times, seconds
+from bench.stdio import BUILT, LINEAR, SAME, Words, from_file, gnu_rmt, kilobytes
+from bench.times import Time, in_turns, timed
+from bench.told import ratio_of_times
 from bench.wire import BLOCKS, GREATEST_RECORD, read, write
 from tests.lib.given import given
 
@@ -41,6 +43,8 @@ CAPACITY = 1 << 40
 RECORDS = 100_000
 RECORD = 100
 GREAT_RECORDS = (1 << 30) // GREATEST_RECORD
+# What passing the marks, a way, is to take at most, in seconds.
+MARKS, WANTED_OF_MARKS = 25_000_000, 5.0
 # How often a long way is spaced, and how often one operation is done.
 LONG_WAYS = 10
 SHORT_WAYS = 50_000
@@ -56,21 +60,18 @@ class Run(NamedTuple):
     words: Words
     source: Path
 
+    def timed(self) -> Time:
+        self.ready()
+        return timed(partial(from_file, self.words, self.source))
+
 
 def nothing() -> None:
     """Makes nothing ready."""
 
 
-def least(runs: Sequence[Run]) -> list[float]:
-    """The least time of each run. They take turns, so that what else the machine does falls on all of them."""
-    rounds = []
-    for _ in range(ROUNDS):
-        times = []
-        for run in runs:
-            run.ready()
-            times.append(seconds_of(from_file, run.words, run.source))
-        rounds.append(times)
-    return [min(times) for times in zip(*rounds)]
+def least(runs: Sequence[Run]) -> list[Time]:
+    """The least time of each run."""
+    return in_turns([run.timed for run in runs], ROUNDS)
 
 
 class Drive:
@@ -181,7 +182,9 @@ def time_writes(drive: Drive, others: Others, load: Load) -> None:
 
     runs = {"ours": Run(drive.wipe, drive.words, load.writes), "cat": Run(remove, ("sh", "-c", f"exec cat > {plain}"), load.writes)}
     if others.rmt:
-        runs["rmt"] = Run(remove, others.rmt, load.stream_of_writes(drive, "to_file", 577, str(plain)))
+        to_file = load.stream_of_writes(drive, "to_file", 577, str(plain))
+        runs["rmt"] = Run(remove, others.rmt, to_file)
+        runs["rmt, sync"] = Run(remove, ("sh", "-c", f"{others.rmt[0]} && sync {plain}"), to_file)
     if floor := others.floor_to(drive, "write", load.size):
         runs["floor"] = Run(drive.wipe, floor, load.writes)
     table_line(f"{round(load.size * load.records / MIB)} MiB written by {load.size:,} bytes", runs, wanted_beside_cat(load.size))
@@ -225,11 +228,17 @@ def wanted_beside_cat(size: int) -> float:
 def table_line(title: str, runs: dict[str, Run], wanted: float) -> None:
     """Prints what the server takes beside the others."""
     times = dict(zip(runs, least(list(runs.values()))))
-    for other, name, most in (("cat", "cat", wanted), ("rmt", "GNU rmt", WANTED_BESIDE_RMT), ("floor", "the floor", None)):
+    for other, name, most in (
+        ("cat", "cat", wanted),
+        ("rmt", "GNU rmt", WANTED_BESIDE_RMT),
+        ("rmt, sync", "GNU rmt and sync", WANTED_BESIDE_RMT),
+        ("floor", "the floor", None),
+    ):
         if other in times:
             ratio_of_times(f"folder, {title} / {name}", times["ours"], times[other], most)
     beside = {name: f"{times['ours'] / time:.2f}" for name, time in times.items()}
-    print(f"{title:<38}{beside['cat']:>10}{wanted:>12.1f}{beside.get('rmt', '-'):>14}{beside.get('floor', '-'):>12}", flush=True)
+    told = "".join(f"{beside.get(it, '-'):>14}" for it in ("rmt", "rmt, sync", "floor"))
+    print(f"{title:<38}{beside['cat']:>10}{wanted:>10.1f}{told}", flush=True)
 
 
 # Spacing.
@@ -272,10 +281,26 @@ def spacings(drive: Drive) -> bool:
                 return False
         whole, half, none = least([Run(nothing, drive.words, it) for it in streams])
         passed = LONG_WAYS * RECORDS * (2 if back else 1)
-        beside_half, times = (whole - none) / (half - none), f"{seconds(whole - none)} / {seconds(half - none)}"
-        ratio(f"folder, spacing {title} / over half", beside_half, LINEAR, times)
+        beside_half = ratio_of_times(f"folder, spacing {title} / over half", whole - none, half - none, LINEAR)
         print(f"{title:<38}{beside_half:>10.2f}{(whole - none) / passed * 1e9:>12.0f} ns a record", flush=True)
     print("About 2 says that the time grows with the records that are passed, and no faster.")
+    return True
+
+
+def over_marks(drive: Drive, count: int) -> bool:
+    """Prints what spacing over marks takes, forward and back, beside `cat` of their file; answers whether the answers were right."""
+    drive.reel.write_bytes(bytes(4 * count))
+    requests = [operation(1, count), operation(2, count)]
+    ways = [drive.stream(f"marks{number}", 0, requests[:number]) for number in range(3)]
+    if not answered(drive.words, ways[2], b"A%d\n" % count, 2):
+        return False
+    none, there, both, cat = least([*(Run(nothing, drive.words, it) for it in ways), Run(nothing, ("cat", str(drive.reel)), ways[0])])
+    for way, passed in (("forward", there - none), ("back", both - there)):
+        title = f"folder, {count:,} marks {way}"
+        beside = ratio_of_times(f"{title} / cat", passed, cat)
+        ratio_of_times(f"{title} / {WANTED_OF_MARKS:.0f} s", passed, WANTED_OF_MARKS, 1.0)
+        print(f"{f'{count:,} marks {way}':<38}{beside:>10.2f} times cat{passed:>12.3f} s", flush=True)
+    drive.wipe()
     return True
 
 
@@ -288,7 +313,7 @@ def at_the_end(drive: Drive) -> bool:
         ("back over a record, and a write", (operation(4, 1), b"W1\nx"), b"A1\nA1\n"),
     ):
         cuts = requests[1].startswith(b"W")
-        times = []
+        times: list[Time] = []
         for place in (GREAT_RECORDS, 1):
             write_great(drive.reel)
             if cuts and place == 1:
@@ -300,7 +325,7 @@ def at_the_end(drive: Drive) -> bool:
             if not answered(drive.words, drive.stream("few", 2, [there, *requests * 9]), b"A%d\n%s" % (place, replies * 9), 1):
                 return False
             times.append(least([Run(nothing, drive.words, many)])[0] - arrived)
-        ratio(f"folder, {title}: at the end / at the beginning", times[0] / times[1], SAME, f"{seconds(times[0] / SHORT_WAYS)} for both")
+        ratio_of_times(f"folder, {title}: at the end / at the beginning", times[0], times[1], SAME)
         print(f"{title:<38}{times[0] / times[1]:>10.2f}{times[0] / SHORT_WAYS * 1e9:>12.0f} ns for both", flush=True)
     drive.wipe()
     return True
@@ -397,6 +422,7 @@ def main() -> int:
     parser = argparse.ArgumentParser(description="Ratios of one run of the tape server over a folder.")
     parser.add_argument("program", nargs="?", type=Path, default=BUILT, help="the built rmtd")
     parser.add_argument("--mib", type=int, default=256, help="how much is written and read back")
+    parser.add_argument("--marks", type=int, default=MARKS, help="how many marks are spaced over")
     words = parser.parse_args()
     program = words.program.resolve()
     if not program.is_file():
@@ -410,10 +436,10 @@ def main() -> int:
         drive = Drive(str(program), Path(folder))
         others = Others(rmt, floor_words(drive.folder))
         print("" if others.floor else "skipped: there is no C compiler on this machine, and so no floor\n")
-        print(f"{'time of the server over a folder':<38}{'to cat':>10}{'wanted':>12}{'to GNU rmt':>14}{'to floor':>12}")
+        print(f"{'time of the server over a folder':<38}{'to cat':>10}{'wanted':>10}{'to GNU rmt':>14}{'and sync':>14}{'to floor':>14}")
         for size in BLOCKS:
             good = good and bytes_through(drive, others, size, words.mib * MIB)
-        good = good and spacings(drive) and at_the_end(drive)
+        good = good and spacings(drive) and over_marks(drive, words.marks) and at_the_end(drive)
         if good:
             memory(drive)
             calls(drive)

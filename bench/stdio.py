@@ -21,10 +21,12 @@ import tempfile
 import termios
 import time
 from dataclasses import dataclass
+from functools import partial
 from pathlib import Path
 from typing import Callable, Iterator, NamedTuple, Sequence
 
-from bench.told import ratio, ratio_of_times, seconds
+from bench.times import Time, in_turns, timed
+from bench.told import ratio_of_times
 from bench.wire import GREATEST_RECORD, MARK, NO_OPERATION, REWIND, write
 from tests.lib.given import given
 
@@ -140,17 +142,9 @@ def answers_are_right(words: Words, source: Path, answers: Iterator[bytes]) -> b
     return answered == b"A0\n" + b"".join(answers)
 
 
-def seconds_of(feed: Callable[[Words, Path], None], words: Words, source: Path) -> float:
-    """How long a program takes from its start to its end."""
-    begin = time.perf_counter()
-    feed(words, source)
-    return time.perf_counter() - begin
-
-
-def least_times(feed: Callable[[Words, Path], None], runs: Sequence[tuple[Words, Path]], repeats: int = REPEATS) -> list[float]:
-    """The least time of each run. They take turns, so that what else the machine does falls on all of them."""
-    rounds = [[seconds_of(feed, *run) for run in runs] for _ in range(repeats)]
-    return [min(times) for times in zip(*rounds)]
+def least_times(feed: Callable[[Words, Path], None], runs: Sequence[tuple[Words, Path]], repeats: int = REPEATS) -> list[Time]:
+    """The least time of each run, from the start of its program to the end."""
+    return in_turns([partial(timed, partial(feed, *run)) for run in runs], repeats)
 
 
 def ratios(server: Words, rmt: Words | None, workload: Workload, streams: Streams) -> str:
@@ -225,9 +219,8 @@ def spacing_ratios(server: Words, spacing: Spacing, folder: Path) -> str | None:
         return None
     runs = [(server, it.source) for it in streams]
     everything, half, nothing, of_many, of_few = least_times(from_file, runs, SPACING_REPEATS)
-    passing = (everything - nothing) / (half - nothing)
     name = f"spacing, {spacing.title}"
-    ratio(f"{name} / over half", passing, LINEAR, f"{seconds(everything - nothing)} / {seconds(half - nothing)}")
+    passing = ratio_of_times(f"{name} / over half", everything - nothing, half - nothing, LINEAR)
     ratio_of_times(f"{name}: one of many / one of few", of_many, of_few, SAME)
     return f"{spacing.title:<38}{passing:>12.2f}{of_many / of_few:>22.2f}"
 

@@ -5,6 +5,8 @@ from __future__ import annotations
 from pathlib import Path
 from typing import NamedTuple
 
+from bench.times import Time
+
 TOLD = Path(__file__).resolve().parent.parent / "out/bench.tsv"
 
 
@@ -29,15 +31,16 @@ def ratio(name: str, value: float, wanted: float | None = None, figures: str = "
 
 
 def ratio_of_times(name: str, ours: float, theirs: float, wanted: float | None = None) -> float:
-    """Adds the ratio of two times in seconds, and answers it."""
-    ratio(name, ours / theirs, wanted, f"{seconds(ours)} / {seconds(theirs)}")
+    """Adds the ratio of two times in seconds, with the processor seconds of those that have them, and answers it."""
+    spent = " / ".join(seconds(it.processor) for it in (ours, theirs) if isinstance(it, Time))
+    ratio(name, ours / theirs, wanted, f"{seconds(ours)} / {seconds(theirs)}" + (f"; processor {spent}" if spent else ""))
     return ours / theirs
 
 
 def seconds(time: float) -> str:
     """A time with its unit."""
     for least, unit in ((1, "s"), (1e-3, "ms"), (1e-6, "us")):
-        if time >= least:
+        if abs(time) >= least:
             return f"{time / least:.3g} {unit}"
     return f"{time * 1e9:.3g} ns"
 

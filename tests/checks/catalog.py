@@ -65,7 +65,7 @@ from tests.models.world import Volume
 FILE = "catalog"
 CATALOG = ("--catalog", FILE)
 NOT_COMPLETE = "catalog not complete\n"
-ADD = "add this line:\n"
+ADD = "add this line, above those of later volumes:\n"
 SEED = 53
 # So many dumps of one file at once, so often.
 TOGETHER = ((2, 20), (12, 3))
@@ -1336,7 +1336,7 @@ def kept_run(p: shimmed.ShimmedPrograms, rules: str, path: str = "") -> KeptRun:
 
 def lines_told(told: bytes) -> list[bytes]:
     """The lines that a dump says are to be added."""
-    return [it[1] for it in re.finditer(rb"^rdump: [^\n]*: add this line:\n([0-9a-f]{64}  [^\n]*\n)", told, re.M)]
+    return [it[1] for it in re.finditer(rb"^rdump: [^\n]*: add this line, above those of later volumes:\n([0-9a-f]{64}  [^\n]*\n)", told, re.M)]
 
 
 def broken_rules(it: KeptRun) -> list[str]:
@@ -1356,7 +1356,7 @@ def broken_rules(it: KeptRun) -> list[str]:
         "it is finished only if all lines are there, and the end was printed": not is_finished or (is_whole and is_ended and not told),
         "dumpdates has it only if it is finished, or not complete": it.left.dates == shimmed.OLD_DATES or is_finished or is_short,
         "it is told whether the catalog is complete": tells.endswith(NOT_COMPLETE) or is_killed if is_short else NOT_COMPLETE not in tells,
-        "each line that is to be added is told whole": got.told.count(b"add this line") == len(told),
+        "each line that is to be added is told whole": got.told.count(b"add this line,") == len(told),
         "the status says whether the catalog is complete": not is_short or got.status == ABNORMAL or is_killed,
     }
     return [rule for rule, is_kept in rules.items() if not is_kept]

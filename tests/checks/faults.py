@@ -1033,6 +1033,8 @@ class KeptDumpCalls(FaultCase):
 MEETING = ("open", "statx", "flock", "write", "fsync", "rename")
 # So long the other one may take to begin or to be refused, if it does not wait for the stopped one.
 MEETS_SECONDS = 1.5
+# The entry of a dump of each level.
+ENTERED = b"/usr                             %d Wed Mar  1 00:00:00 2000\n"
 # The first request of the second volume of three blocks, before which the count of the first one is kept.
 SECOND_VOLUME = 12
 
@@ -1120,21 +1122,41 @@ class TwoDumps(FaultCase):
             self.ends(f"{title}: the other dump goes on", got, THREE_BLOCKS.printed())
             self.same(f"{title}: the file is gone", folder.joinpath(KEPT).exists(), False)
 
+    def entering(self, folder: Path, address: str) -> tuple[str, ...]:
+        """The words of both dumps with one dumpdates, without their levels. They have no block."""
+        folder.joinpath("payload").write_bytes(b"")
+        to, files = ("--to", address, "--device", DEVICE), ("--payload", str(folder / "payload"), "--dumpdates", str(folder / "dates"))
+        return (self.p.rdump, "dump", *to, "--fs", "/usr", "--block", str(BLOCK), *files, *DATED, "--update")
+
     def test_dumpdates_is_entered_late(self) -> None:
         """A dump whose new file of dumpdates another one takes away, before it is locked, makes another: both dumps are entered."""
         title = "a new file of dumpdates that goes away before it is locked"
         with folders() as folder, Model(*(Reel(it, 3100) for it in ("r1", "r2"))) as model:
-            folder.joinpath("payload").write_bytes(b"")
-            to, files = ("--to", model.address, "--device", DEVICE), ("--payload", str(folder / "payload"), "--dumpdates", str(folder / "dates"))
-            words = (self.p.rdump, "dump", *to, "--fs", "/usr", "--block", str(BLOCK), *files, *DATED, "--update")
+            words = self.entering(folder, model.address)
             # The first lock is that of the look at the start.
             with self.stopped_late((*words, "--level", "0"), "flock:2:S") as ends:
                 made = sorted(it.name for it in folder.iterdir() if it.name.startswith("dates"))
                 other = self.p.run((*words, "--level", "1"), None)
                 late = ends()
-            entries = b"".join(b"%-32s %d Wed Mar  1 00:00:00 2000\n" % (b"/usr", level) for level in (1, 0))
+            entries = b"".join(ENTERED % level for level in (1, 0))
             self.same(f"{title}: it is there", made, ["dates.new"])
             self.ends(f"{title}: the other dump", other, NO_BLOCKS.printed())
             self.ends(f"{title}: the dump", late, NO_BLOCKS.printed())
             text = folder.joinpath("dates").read_bytes() if folder.joinpath("dates").exists() else None
             self.same(f"{title}: both are entered", (text, folder.joinpath("dates.new").exists()), (entries, False))
+
+    def test_lock_of_dumpdates_is_taken_away(self) -> None:
+        """A dump whose lock somebody takes away does not undo the entry of another dump."""
+        title = "a lock of dumpdates that is taken away before the new text has its name"
+        with folders() as folder, Model(*(Reel(it, 3100) for it in ("r1", "r2"))) as model:
+            words = self.entering(folder, model.address)
+            with self.stopped_late((*words, "--level", "0"), "fsync:1:S") as ends:
+                folder.joinpath("dates.new").unlink()
+                other = self.p.run((*words, "--level", "1"), None)
+                late = ends()
+            told = f"rdump: {folder / 'dates'}: its .new was taken away or written: another run may have replaced it\n".encode()
+            self.ends(f"{title}: the other dump", other, NO_BLOCKS.printed())
+            wanted = ABNORMAL, NO_BLOCKS.printed() + b"dumpdates not updated\n", True
+            self.same(title, (late.status, late.output, told in late.told), wanted, late.shown())
+            files = {it.name: it.read_bytes() for it in folder.glob("dates*")}
+            self.same(f"{title}: the other entry stays", files, {"dates": ENTERED % 1})

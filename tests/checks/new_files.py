@@ -29,6 +29,7 @@ from tests.lib.waiting import GUARD_SECONDS
 from tests.models.checkpoint import text_of
 
 NOT_UPDATED, NOT_WRITTEN = "dumpdates not updated\n", "checkpoint not written\n"
+LOST_LOCK = "its .new was taken away or written: another run may have replaced it"
 UPDATE, KEPT = ("--dumpdates", "dd", "--update"), ("--checkpoint", "usr")
 HOME = f"{'/home':<32} 9 Mon Feb 28 00:00:00 2000\n"
 # What is no lock, since it is not empty.
@@ -129,26 +130,29 @@ class Strangers(FileCase):
         self.same("dd.new of another that comes late: it stays", self.p.bytes_of("dd.new"), b"own\n")
 
     def test_what_comes_in_place_of_the_lock_of_a_checkpoint(self) -> None:
-        """The dump has its lock, and goes on. What is there at its end stays."""
+        """The dump has lost its lock, and ends once its checkpoint is to be kept. What is there stays."""
         path = self.p.folder / "usr.new"
 
         def exchange(make: Callable[[], object]) -> None:
             path.unlink()
             make()
 
-        rows: tuple[tuple[str, Callable[[], object], str], ...] = (
+        rows: tuple[tuple[str, Callable[[], object], str | None], ...] = (
             ("bytes in the lock", partial(path.write_bytes, b"own\n"), "own\n"),
             ("another file", partial(exchange, partial(path.write_bytes, b"own\n")), "own\n"),
             ("another empty file", partial(exchange, path.touch), ""),
             ("a link", partial(exchange, partial(path.symlink_to, "mine")), "mine"),
+            ("nothing", path.unlink, None),
         )
         self.p.file("mine", b"mine")
         for title, act, stays in rows:
             got, _ = self.acted_on({5: act}, *KEPT)
-            self.ends(f"usr.new: {title}", got, ONE_VOLUME, DONE)
-            left = os.readlink(path) if path.is_symlink() else path.read_text()
-            self.same(f"usr.new: {title}: it stays", (left, self.p.bytes_of("mine"), self.p.bytes_of("usr")), (stays, b"mine", None))
-            path.unlink()
+            self.ends(f"usr.new: {title}", got, ONE_VOLUME.splitlines(True)[0] + NOT_WRITTEN, ABNORMAL, f"rdump: usr: {LOST_LOCK}\n")
+            left = os.readlink(path) if path.is_symlink() else path.read_text() if path.exists() else None
+            self.same(f"usr.new: {title}: it stays", (left, self.p.bytes_of("mine")), (stays, b"mine"))
+            self.same(f"usr.new: {title}: the checkpoint is as it was", self.p.bytes_of("usr"), text_of(RUN))
+            path.unlink(missing_ok=True)
+            self.p.folder.joinpath("usr").unlink()
 
 
 class Left(FileCase):

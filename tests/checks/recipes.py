@@ -143,7 +143,9 @@ UNSHOWN = {
     "rdump: standard output could not be written: the payload is not whole": "it takes a failure for which the system has no reason",
     "rdump: out of memory": "an allocation fails there only by chance",
     "rdump: FILE: it could not be read or replaced": "it takes a failure for which the system has no reason",
-    "rdump: FILE: it could not be read or replaced: add this line:": "it takes a failure for which the system has no reason",
+    "rdump: FILE: it could not be read or replaced: add this line, above those of later volumes:": (
+        "it takes a failure for which the system has no reason"
+    ),
     "rdump: FOLDER: it is no folder": "tests/checks/fetch.py shows it",
     "rdump: FILE: it could not be removed": "it takes a failure for which the system has no reason",
     "rdump: FILE: it is no dumpdates file, status 3": "tests/checks/updates.py shows it: the file has to change while a dump runs",
@@ -164,6 +166,7 @@ UNSHOWN = {
     "rdump: FILE: its .new is the .new of the dumpdates file too: FILE": "tests/checks/new_files.py shows others of this form",
     "rdump: FILE: its .new.1 to .new.1000 are taken: remove these files": "tests/checks/new_files.py shows it",
     "rdump: FILE: its .new was locked for ten seconds": "tests/checks/updates.py shows it, and waits for it beside other checks",
+    "rdump: FILE: its .new was taken away or written: another run may have replaced it": "tests/checks/new_files.py shows it",
     "rdump: FILE: its block size is N, and that of this dump is N": "tests/checks/checkpoint.py shows it",
     "rdump: FILE: its device is DEVICE, and that of this dump is DEVICE": "tests/checks/checkpoint.py shows it",
     "rdump: FILE: its name is NAME, and that of this dump is NAME": "tests/checks/checkpoint.py shows it",
@@ -176,7 +179,7 @@ UNSHOWN = {
     "rdump: FILE: N dumps of this name, level and dates began: nothing is entered": "tests/checks/catalog.py shows it",
     "rdump: FILE: line N: bad date": "tests/checks/ls.py shows it",
     "rdump: FILE: line N: bad line": "tests/checks/ls.py shows it",
-    "rdump: FILE: out of memory: add this line:": "it takes an allocation that fails while a volume is counted",
+    "rdump: FILE: out of memory: add this line, above those of later volumes:": "it takes an allocation that fails while a volume is counted",
     "rdump: FILE: the entry of NAME level N that this dump is to replace has a later date, DATE": "tests/checks/new_files.py shows it",
     "rdump: FILE: whether it changed while it was dumped cannot be told: REASON": "tests/checks/faults.py shows it: it takes a call that fails",
     "rdump: FOLDER: a name in it is not UTF-8": "tests/checks/ls.py shows it",

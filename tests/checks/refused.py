@@ -393,7 +393,8 @@ class KeptDump(NamedTuple):
 
 # What a dump leaves, and the text of its catalog.
 Cataloged = tuple[Left, bytes]
-NOT_COMPLETE, UNENTERED = b"catalog not complete\n", rb"^rdump: \S+: out of memory: add this line:\n([0-9a-f]{64}  [^\n]+\n)"
+NOT_COMPLETE = b"catalog not complete\n"
+UNENTERED = rb"^rdump: \S+: out of memory: add this line, above those of later volumes:\n([0-9a-f]{64}  [^\n]+\n)"
 THREE_LINES = dump_text(THREE_BLOCKS.reels(), len(THREE_BLOCKS.data()), BLOCK)
 
 

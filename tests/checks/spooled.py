@@ -98,11 +98,12 @@ class SpoolCase(DumpCase):
 
     def unread(self, title: str, told: str, *more: str, address: str = NOWHERE, **changed: str | None) -> None:
         """The dump does not start, says this alone, and has read nothing from standard input, which has no end yet."""
-        before = self.lying_but_the_lock()
+        before, had_lock = self.lying_but_the_lock(), LOCK in self.lying()
         output, told_here, status, rest = self.with_open_pipe(address, *more, **changed)
         self.same(f"{title}: it does not start", (output, told_here, status), ("", told, FAILED))
         self.same(f"{title}: nothing was read", rest, b"bytes")
         self.same(f"{title}: the folder", self.lying_but_the_lock(), before)
+        self.holds(f"{title}: it leaves no lock", had_lock or LOCK not in self.lying(), self.lying())
 
     def calls_come(self, wanted: tuple[tuple[str, str, str], ...], *more: str) -> None:
         """A dump makes these calls of the system, one after the other, and then a connection."""
@@ -405,6 +406,32 @@ class Named(SpoolCase):
         path.unlink()
         os.mkfifo(path)
         self.unread("a pipe", no_file, *KEPT)
+
+    def test_limits(self) -> None:
+        """Arguments that no run has, and files that are one: standard input is not read, and nothing is made."""
+        limits = (
+            ("a name", {"fs": "a b"}, "--fs <NAME>: a name is 1 to 255 bytes of printable ASCII without a space"),
+            ("a level", {"level": "12"}, "--level 12: a level is 0 to 9"),
+            ("a block", {"block": "0"}, "--block 0: a block is 1 to 262144 bytes"),
+            ("a date", {"date": "253402300800"}, "--date 253402300800: a date is 0 to 253402300799"),
+        )
+        for title, changed, told in limits:
+            for more in ((), KEPT):
+                _, told_here, status, rest = self.with_open_pipe(NOWHERE, *more, **changed)
+                came = told in told_here, status, rest, self.lying()
+                self.same(f"{title}: it does not start", came, (True, FAILED, b"bytes", []), told_here)
+        for word, file in (("dumpdates", "the dumpdates file"), ("catalog", "the catalog")):
+            for path in (NAMED, f"./{NAMED}"):
+                self.unread(f"the {word}: {path}", f"rdump: {path}: it is {file} too: {path}\n", *KEPT, **{word: path})
+
+    def test_a_dump_that_does_not_begin(self) -> None:
+        """Nothing stays of what was read, unless there is a checkpoint."""
+        self.p.file("catalog.new", b"")
+        with self.p.folder.joinpath("catalog.new").open() as held:
+            fcntl.flock(held, fcntl.LOCK_EX)
+            got = self.kept_dump(NOWHERE, PAYLOAD, "--catalog", "catalog")
+        self.same("a catalog that is locked", (got.output, got.status, "catalog" in got.told), ("", FAILED, True), got.told)
+        self.same("a catalog that is locked: the files", self.lying_but_the_lock(), ["catalog.new"])
 
     def test_it_is_gone(self) -> None:
         self.stopped(SECOND)

@@ -5,13 +5,17 @@ from __future__ import annotations
 import contextlib
 import io
 import json
+import subprocess
 import sys
 import tempfile
 from pathlib import Path
 from unittest.mock import patch
 
 from bench import table, told
+from bench.network import MIB, Line, built, by_cat, payload
+from bench.times import Time, timed
 from tests.lib.case import Case
+from tests.lib.given import given
 
 MACHINE = table.Machine(4, "a processor", "Linux 6.1", "ext4 under /tmp", (0.5, 1.25, 2.0))
 
@@ -56,3 +60,23 @@ class Bench(Case):
             {"name": "bytes", "value": 7.0, "wanted": None, "figures": "", "held": None},
         ]
         self.same("the same as JSON", json.loads(file.read_text()), {"machine": machine, "ratios": ratios})
+
+    def test_processor_seconds(self) -> None:
+        told.ratio_of_times("ours / theirs", Time(3.0, 0.5) - Time(1.0, 0.25), Time(4.0, 1.0))
+        told.ratio_of_times("ours / a limit", Time(3.0, 0.5), 6.0)
+        figures = ["2 s / 4 s; processor 250 ms / 1 s", "3 s / 6 s; processor 500 ms"]
+        self.same("each ratio has the processor seconds that are known", [it.figures for it in told.ratios()], figures)
+
+    def test_running_programs_count(self) -> None:
+        with subprocess.Popen(("cat",), stdin=subprocess.PIPE, stdout=subprocess.PIPE, bufsize=0) as server:
+            to_server, replies = given(server.stdin), given(server.stdout)
+            time = timed(lambda: (to_server.write(b"asked"), self.same("it answers", replies.read(5), b"asked")))
+            to_server.close()
+        self.holds("the processor seconds of a server that goes on are counted", time.processor > 0)
+
+    def test_a_line_is_not_faster_than_its_rate(self) -> None:
+        relay, rate = built(self.folder, "relay"), 10 * MIB
+        if not relay:
+            self.skipTest("it takes a C compiler")
+        time = by_cat(payload(self.folder / "payload", MIB), Line(relay, rate))
+        self.holds("a relay takes the time of its rate", time >= MIB / rate, time)

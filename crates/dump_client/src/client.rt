@@ -287,7 +287,7 @@ impl<B: Blocks> Client<B> {
     /// Does what `feed` does, and also returns the label that the attempt is about to overwrite.
     ///
     /// The label is returned once, with the piece that completes the reply to the look. It is None
-    /// if the record is no label, or if the attempt fails at it. It allocates nothing.
+    /// if the record is no label, or if the attempt fails at it.
     pub fn feed_finding_label(&mut self, piece: &[u8]) -> (Progress, Option<VolumeLabel>)
         ensures moved { (bytes : List ℕ) → HasFed self.old bytes → FedAt self.old.at.stage self.old.at bytes piece.now result.0 self.new.at }
         ensures found { (bytes : List ℕ) → HasFed self.old bytes → FindsLabel self.old.at.stage (bytes ++ piece.now) result.0 result.1 }

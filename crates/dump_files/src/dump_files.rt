@@ -67,13 +67,11 @@ impl DumpFiles {
         path: &str,
         is_updated: bool,
     ) -> io::Result<Option<SameFile>> {
-        let dates = FileId::of_path(rt, alloc, path)?;
-        let same = self.add(DumpFile::Dates, dates)?;
-        if same.is_some() || !is_updated {
-            return Ok(same);
+        if is_updated {
+            return self.add_locked(rt, alloc, path, DumpFile::Dates, DumpFile::NewDates);
         }
-        let new = FileId::of_lock(rt, alloc, path)?;
-        self.add(DumpFile::NewDates, new)
+        let dates = FileId::of_path(rt, alloc, path)?;
+        self.add(DumpFile::Dates, dates)
     }
 
     /// Adds the checkpoint file and its lock, as `add_dates` does.
@@ -83,13 +81,13 @@ impl DumpFiles {
         alloc: Global,
         path: &str,
     ) -> io::Result<Option<SameFile>> {
-        let checkpoint = FileId::of_path(rt, alloc, path)?;
-        let same = self.add(DumpFile::Checkpoint, checkpoint)?;
-        if same.is_some() {
-            return Ok(same);
-        }
-        let new = FileId::of_lock(rt, alloc, path)?;
-        self.add(DumpFile::NewCheckpoint, new)
+        self.add_locked(
+            rt,
+            alloc,
+            path,
+            DumpFile::Checkpoint,
+            DumpFile::NewCheckpoint,
+        )
     }
 
     /// Adds the catalog and its lock, as `add_dates` does.
@@ -99,13 +97,24 @@ impl DumpFiles {
         alloc: Global,
         path: &str,
     ) -> io::Result<Option<SameFile>> {
-        let catalog = FileId::of_path(rt, alloc, path)?;
-        let same = self.add(DumpFile::Catalog, catalog)?;
+        self.add_locked(rt, alloc, path, DumpFile::Catalog, DumpFile::NewCatalog)
+    }
+
+    fn add_locked<R: Files<File = File>>(
+        &mut self,
+        rt: &R,
+        alloc: Global,
+        path: &str,
+        file: DumpFile,
+        lock: DumpFile,
+    ) -> io::Result<Option<SameFile>> {
+        let id = FileId::of_path(rt, alloc, path)?;
+        let same = self.add(file, id)?;
         if same.is_some() {
             return Ok(same);
         }
-        let new = FileId::of_lock(rt, alloc, path)?;
-        self.add(DumpFile::NewCatalog, new)
+        let id = FileId::of_lock(rt, alloc, path)?;
+        self.add(lock, id)
     }
 
     fn add(&mut self, file: DumpFile, id: Option<FileId>) -> io::Result<Option<SameFile>> {

@@ -18,8 +18,8 @@ AreVolumes run volume first (c ∷ counts) =
     (c.volume ≡ volume) × (c.first ≡ first) × IsCount run first c.count × ((counts ≡ []) ⊎ (first + c.count < run.blocks))
     × AreVolumes run (volume + 1) (first + c.count) counts
 
--- from this volume and block on, each count begins right after the one before, and the last ends
--- with the run
+-- From this volume and block on, each count begins right after the one before, and the last ends
+-- with the run, which has `blocks` blocks. A count may have no block.
 abbrev pub CoversFrom : ℕ → ℕ → ℕ → List VolumeCount → Type 0
 CoversFrom blocks volume first [] = first ≡ blocks
 CoversFrom blocks volume first (c ∷ counts) =

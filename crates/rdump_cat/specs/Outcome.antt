@@ -29,7 +29,7 @@ cat_status (Err (Reel reel)) is_closed = Abnormal
 cat_status (Err (Refused refusal)) is_closed = refused_status refusal
 
 -- The exit status for a payload of which parts may be missing, given what came of the restore, and
--- whether the reader of the output closed it.
+-- whether the reader of the output closed it. As `cat_status`, but never `Success`.
 abbrev pub parts_status : {X : Type 0} → Result X RestoreFault → Bool → ExitStatus
 parts_status (Ok done) is_closed = Abnormal
 parts_status (Err Output) true = Abnormal

@@ -38,7 +38,8 @@ const QUICK_SETBACKS: u32 = 2;
 /// How long such an attempt waits, in seconds.
 const WAIT_SECONDS: u64 = 1;
 
-/// A file that remembers why its last call failed.
+/// A file that remembers why its last call failed. A program has a `ReplacedFile`; the trait lets
+/// contracts speak of a file whose bytes are known.
 pub(crate) trait FailingFile: WholeFile {
     /// Returns the error of the last call that failed, or none if no call failed.
     fn failure(&self) -> Option<&io::Error>;
@@ -64,7 +65,7 @@ pub(crate) struct Kept<'a, R: ClientSystem, F: WholeFile> {
 /// Its contracts say what becomes of the dumpdates file. They state nothing else of what is kept or
 /// printed.
 ///
-/// On a terminal, the line of progress is cleared before each message.
+/// On a terminal, the line of progress is cleared before the messages of an attempt.
 #[derive(Drop)]
 pub(crate) struct Attendant<'s, 'a, R: ClientSystem, T: Write, F: WholeFile> {
     start: &'s Start<'a, R>,
@@ -198,6 +199,20 @@ impl<'s, 'a, R: ClientSystem, T: Write + Copy + Drop, F: FailingFile> Attendant<
         };
     }
 
+    /// Removes the payload beside the checkpoint, if there is one. If that fails, prints why and
+    /// returns false.
+    pub(crate) fn remove_spool(&self) -> bool {
+        let (Some(spool), Some(path)) = (&self.kept.spool, &self.start.spool_path) else {
+            return true;
+        };
+        let Err(error) = spool.remove() else {
+            return true;
+        };
+        let path = plain(path.as_str());
+        let _ = eprintln!(self.start.rt; "rdump: {path}: it could not be removed: {error}");
+        false
+    }
+
     fn checkpoint_path(&self) -> &'a str {
         self.start.line.checkpoint.unwrap_or("")
     }
@@ -320,11 +335,11 @@ impl<'s, 'a, R: ClientSystem, T: Write + Copy + Drop, F: FailingFile, B: Blocks>
         self.clear();
         let start = self.start;
         let Some(unattended) = &mut self.unattended else {
-            // What standard input gives is the payload, and no answer.
-            return match start.is_piped {
-                true => Reply::Abandon,
-                false => self.operator.answer(),
-            };
+            if start.is_piped {
+                // What standard input gives is the payload, and no answer.
+                return Reply::Abandon;
+            }
+            return self.operator.answer();
         };
         if unattended.waits(start.rt, self.setback) {
             return Reply::Retry;
@@ -370,12 +385,11 @@ impl<'s, 'a, R: ClientSystem, T: Write + Copy + Drop, F: FailingFile, B: Blocks>
     }
 
     fn forget(&mut self) -> bool {
-        let (rt, path) = (self.start.rt, plain(self.checkpoint_path()));
-        // A checkpoint without its payload is told of, so the payload goes first.
-        if let Some(Err(error)) = self.kept.spool.as_ref().map(|it| it.remove()) {
-            let _ = eprintln!(rt; "rdump: {path}.payload: it could not be removed: {error}");
+        // A checkpoint without its payload is reported, so the payload goes first.
+        if !self.remove_spool() {
             return false;
         }
+        let (rt, path) = (self.start.rt, plain(self.checkpoint_path()));
         let Some(file) = &mut self.kept.checkpoint else {
             return true;
         };

@@ -63,7 +63,8 @@ impl<'a, R: ClientSystem> CatalogFile<'a, R> {
     /// missing, and enters nothing.
     pub(crate) fn resume<B: Blocks>(&mut self, catalog: &Catalog, client: &Client<B>) {
         let begun = catalog.begun(client.run().id());
-        if report_missing(self.rt, catalog, client) {
+        let is_missing = report_unsummed(self.rt, catalog, client);
+        if is_missing {
             self.has_all = false;
         } else if begun != 1 {
             let path = plain(self.path);
@@ -183,7 +184,11 @@ impl Display for Missing {
             Missing::Uncovered => f.write_str("a counted volume has no line in force"),
             Missing::Sum(volume) => write!(f, "volume {volume} has no sum"),
             Missing::Line(why, CatalogLine::Volume(line)) => {
-                write!(f, "{why}: add this line:\n{}", Spelled(line))
+                write!(
+                    f,
+                    "{why}: add this line, above those of later volumes:\n{}",
+                    Spelled(line)
+                )
             }
             Missing::Line(why, _) | Missing::End(why) => write!(f, "{why}"),
         }
@@ -220,7 +225,7 @@ fn unentered<R: ClientSystem>(fault: EnterFault, file: ReplacedFile<'_, R>) -> U
 
 /// Prints which counted volumes of a resumed dump have no line in force in the catalog. Returns
 /// whether there are any.
-fn report_missing<R: ClientSystem, B: Blocks>(
+fn report_unsummed<R: ClientSystem, B: Blocks>(
     rt: &R,
     catalog: &Catalog,
     client: &Client<B>,

@@ -4,7 +4,8 @@ ghost use Rattle.rdump_dump.specs.Dates.{IsDatesEnd};
 ghost use Rattle.rdump_dump.specs.Status.{IsDumpStatus};
 
 use crate::attendant::{Attendant, FailingFile, Kept};
-use crate::start::Start;
+use crate::catalog_file::CatalogFile;
+use crate::start::{Dumper, HeldCheckpoint, Start};
 use crate::start_fault::StartFault;
 use crate::warnings::{report_end, report_first};
 use console::ExitStatus;
@@ -15,6 +16,7 @@ use rdump_args::{DumpLine, STANDARD_INPUT};
 use rdump_net::{Conclusion, DumpEnd, SocketPeer, dump_to_end};
 use rdump_system::{ClientSystem, report_unwritten};
 use rmt_wire::Counted;
+use std::fs::File;
 use std::io::{self, Write};
 use tape::{Medium, MemoryMedium};
 use volume_check::Summed;
@@ -30,8 +32,9 @@ use whole_files::{INPUT_NAME, ReplacedFile};
 /// the limits of a run, and the checkpoint file.
 ///
 /// The payload `-` is standard input, which is read to its end into a file before the dump. Errors
-/// of the other files are found before that. If the dump keeps a checkpoint, the file stays beside
-/// it, and a resumed dump has its payload from there.
+/// of the other files, and of the limits of a run, are found before that. If the dump keeps a
+/// checkpoint, the file stays beside it, and a resumed dump has its payload from there. If no
+/// checkpoint was kept, the file is removed.
 ///
 /// If a checkpoint file exists, the dump is resumed from it, with the date and the base date in it.
 /// The file is held during the whole dump. It is removed once the dump is complete and, if asked
@@ -90,15 +93,16 @@ fn dump_medium<'a, R: ClientSystem, M: Medium + Drop, T: Write + Copy + Drop>(
     let run = start.run(&payload)?;
     let held = start.checkpoint()?;
     let (client, checkpoint) = start.client(run, payload, held)?;
+    let catalog = begin(&start, &client, terminal.is_some())?;
     let kept = Kept {
         dates: start.dates(),
         checkpoint,
         spool: None,
     };
-    run_client(start, client, kept, terminal)
+    Ok(run_client(&start, client, kept, catalog, terminal))
 }
 
-/// Looks at the other files before standard input is read.
+/// Looks at the other files and at the limits of a run before standard input is read.
 fn dump_input<'a, R: ClientSystem, T: Write + Copy + Drop>(
     rt: &'a R,
     line: &DumpLine<'a>,
@@ -107,33 +111,76 @@ fn dump_input<'a, R: ClientSystem, T: Write + Copy + Drop>(
     let mut start = Start::new(rt, line);
     start.look()?;
     let held = start.checkpoint()?;
+    let nothing = start.blocks(MemoryMedium::from_bytes(Vec::new(rt.alloc())))?;
+    start.run(&nothing)?;
     let (file, spool) = start.spool(held.as_ref())?;
+    match begin_spooled(&mut start, file, held, terminal.is_some()) {
+        Ok((client, checkpoint, catalog)) => {
+            let kept = Kept {
+                dates: start.dates(),
+                checkpoint,
+                spool,
+            };
+            Ok(run_client(&start, client, kept, catalog, terminal))
+        }
+        Err(fault) => {
+            if let (Some(spool), true) = (spool, start.has_new_spool) {
+                let _ = spool.remove();
+            }
+            Err(fault)
+        }
+    }
+}
+
+/// The client of a dump, with the files of its checkpoint and its catalog.
+type Begun<'a, R, M> = (
+    Dumper<M>,
+    Option<ReplacedFile<'a, R>>,
+    Option<CatalogFile<'a, R>>,
+);
+
+fn begin_spooled<'a, R: ClientSystem>(
+    start: &mut Start<'a, R>,
+    file: File,
+    held: Option<HeldCheckpoint<'a, R>>,
+    is_at_terminal: bool,
+) -> Result<Begun<'a, R, FileMedium>, StartFault<'a>> {
     let payload = start.blocks(FileMedium::new(file))?;
     let run = start.run(&payload)?;
     let (client, checkpoint) = start.client(run, payload, held)?;
-    let kept = Kept {
-        dates: start.dates(),
-        checkpoint,
-        spool,
-    };
-    run_client(start, client, kept, terminal)
+    let catalog = begin(start, &client, is_at_terminal)?;
+    Ok((client, checkpoint, catalog))
+}
+
+/// Prints what is known before the first attempt, and begins the dump in its catalog.
+fn begin<'a, R: ClientSystem, B: Blocks>(
+    start: &Start<'a, R>,
+    client: &Client<B>,
+    is_at_terminal: bool,
+) -> Result<Option<CatalogFile<'a, R>>, StartFault<'a>> {
+    report_first(start, is_at_terminal)?;
+    start.catalog(client)
 }
 
 fn run_client<'a, R: ClientSystem, B: Blocks + Drop, T: Write + Copy + Drop>(
-    start: Start<'a, R>,
+    start: &Start<'a, R>,
     mut client: Client<Summed<B>>,
     kept: Kept<'a, R, ReplacedFile<'a, R>>,
+    catalog: Option<CatalogFile<'a, R>>,
     terminal: Option<T>,
-) -> Result<ExitStatus, StartFault<'a>> {
-    report_first(&start, terminal.is_some())?;
-    let catalog = start.catalog(&client)?;
+) -> ExitStatus {
     let blocks = client.run().blocks();
-    let mut attendant = Attendant::new(&start, blocks, kept, catalog, terminal);
-    let end = run_attended(&start, &mut client, &mut attendant, terminal);
-    if end.conclusion == Conclusion::Complete {
-        report_end(&start, &client);
+    let mut attendant = Attendant::new(start, blocks, kept, catalog, terminal);
+    let dumped = run_attended(start, &mut client, &mut attendant, terminal);
+    match dumped.conclusion {
+        Conclusion::Complete => report_end(start, &client),
+        Conclusion::Unkept if start.has_new_spool && client.counted().is_empty() => {
+            // There is no checkpoint that could go on with the payload.
+            attendant.remove_spool();
+        }
+        _ => {}
     }
-    Ok(end.status)
+    dumped.status
 }
 
 /// Has a client dump, with this attendant. The status is that of `run_dump`.

@@ -24,7 +24,7 @@ use std::os::unix::fs::FileTypeExt;
 use tape::{Medium, MediumFailed};
 use volume_check::Summed;
 use whole_files::{
-    FileFailed, NamedSpool, PayloadLook, ReplacedFile, SpoolFault, WholeFile, check_plain,
+    FileFailed, FileId, NamedSpool, PayloadLook, ReplacedFile, SpoolFault, WholeFile, check_plain,
     named_spool_path, open_payload, read_or_empty, read_steady, spool_folder, spool_unnamed,
 };
 
@@ -58,6 +58,10 @@ pub(crate) struct Start<'a, R: ClientSystem> {
     is_younger: bool,
     /// Whether the payload is what standard input gives.
     pub is_piped: bool,
+    /// Whether this run has read the payload into a file beside its checkpoint.
+    pub has_new_spool: bool,
+    /// The path of that file, also if an earlier run made it.
+    pub spool_path: Option<String>,
     /// The files of the dump that were checked.
     files: DumpFiles,
 }
@@ -76,6 +80,8 @@ impl<'a, R: ClientSystem> Start<'a, R> {
             is_resumed: false,
             is_younger: false,
             is_piped: false,
+            has_new_spool: false,
+            spool_path: None,
             files: DumpFiles::new(rt.alloc()),
         }
     }
@@ -132,7 +138,17 @@ impl<'a, R: ClientSystem> Start<'a, R> {
                 (file, None)
             }
             Some(held) => {
-                let spool = self.named_spool(held)?;
+                let path = at(held.path, named_spool_path(rt, alloc, held.path))?;
+                self.check_spool(path.as_str())?;
+                let (path, spool) = self.named_spool(held, path)?;
+                self.has_new_spool = held.checkpoint.is_none();
+                if !self.has_new_spool {
+                    let path = plain(path.as_str());
+                    let _ = eprintln!(rt;
+                        "rdump: going on with {path}: standard input is not read"
+                    );
+                }
+                self.spool_path = Some(path);
                 (at(held.path, spool.file())?, Some(spool))
             }
         };
@@ -141,33 +157,23 @@ impl<'a, R: ClientSystem> Start<'a, R> {
         Ok((file, spool))
     }
 
-    /// Returns the payload beside this checkpoint file. If it has no checkpoint, the payload is
-    /// read from standard input.
+    /// Returns the payload at this path, beside this checkpoint file. If it has no checkpoint, the
+    /// payload is read from standard input.
     fn named_spool(
         &self,
         held: &HeldCheckpoint<'a, R>,
-    ) -> Result<NamedSpool<'a, R>, StartFault<'a>> {
-        let (rt, alloc) = (self.rt, self.rt.alloc());
-        let path = at(held.path, named_spool_path(rt, alloc, held.path))?;
-        if let Some(same) = self.named_like(path.as_str()) {
-            return Err(same);
-        }
-        if held.checkpoint.is_none() {
-            let is_empty_fine = self.line.allow_empty;
-            let made = NamedSpool::make(rt, alloc, path.as_str(), &mut rt.reader(), is_empty_fine);
-            return match made {
-                Ok(spool) => Ok(spool),
-                Err(fault) => Err(StartFault::NamedSpool(path, fault)),
-            };
-        }
-        match NamedSpool::find(rt, alloc, path.as_str()) {
-            Ok(Some(spool)) => {
-                let path = plain(path.as_str());
-                let _ = eprintln!(rt; "rdump: going on with {path}: standard input is not read");
-                Ok(spool)
-            }
+        path: String,
+    ) -> Result<(String, NamedSpool<'a, R>), StartFault<'a>> {
+        let (rt, alloc, may_be_empty) = (self.rt, self.rt.alloc(), self.line.allow_empty);
+        let found = if held.checkpoint.is_none() {
+            NamedSpool::make(rt, alloc, path.as_str(), &mut rt.reader(), may_be_empty).map(Some)
+        } else {
+            NamedSpool::find(rt, alloc, path.as_str()).map_err(SpoolFault::Spool)
+        };
+        match found {
+            Ok(Some(spool)) => Ok((path, spool)),
             Ok(None) => Err(StartFault::LostSpool(path, held.path)),
-            Err(error) => Err(StartFault::NamedSpool(path, SpoolFault::Spool(error))),
+            Err(fault) => Err(StartFault::NamedSpool(path, fault)),
         }
     }
 
@@ -275,19 +281,31 @@ impl<'a, R: ClientSystem> Start<'a, R> {
         }
     }
 
-    /// Returns the fault of a spool at this path, if the arguments give the path to another file.
-    fn named_like(&self, path: &str) -> Option<StartFault<'a>> {
-        let file = DumpFile::Payload;
-        if path == self.line.dumpdates {
-            let other = DumpFile::Dates;
-            return Some(StartFault::Same(self.line.dumpdates, SameFile { file, other }));
-        }
-        match self.line.catalog {
-            Some(catalog) if path == catalog => {
-                let other = DumpFile::Catalog;
-                Some(StartFault::Same(catalog, SameFile { file, other }))
+    /// Fails if a file of this path is also the dumpdates file or the catalog.
+    fn check_spool(&self, path: &str) -> Result<(), StartFault<'a>> {
+        let (dates, catalog) = (Some(self.line.dumpdates), self.line.catalog);
+        self.check_other(path, dates, DumpFile::Dates)?;
+        self.check_other(path, catalog, DumpFile::Catalog)
+    }
+
+    fn check_other(
+        &self,
+        path: &str,
+        other_path: Option<&'a str>,
+        other: DumpFile,
+    ) -> Result<(), StartFault<'a>> {
+        let (rt, alloc) = (self.rt, self.rt.alloc());
+        let Some(other_path) = other_path else {
+            return Ok(());
+        };
+        let spool = at(other_path, FileId::of_path(rt, alloc, path))?;
+        let known = at(other_path, FileId::of_path(rt, alloc, other_path))?;
+        match (spool, known) {
+            (Some(spool), Some(known)) if spool.is(&known) => {
+                let file = DumpFile::Payload;
+                Err(StartFault::Same(other_path, SameFile { file, other }))
             }
-            _ => None,
+            _ => Ok(()),
         }
     }
 

@@ -81,9 +81,9 @@ impl StartFault<'_> {
                 let _ = println!(rt; "{fault}");
                 report_no_dates(rt, path, zoned)
             }
-            StartFault::NoCatalog(path, fault) => refuse(rt, path, NotCatalog(fault)),
+            StartFault::NoCatalog(path, fault) => print_fault(rt, path, NotCatalog(fault)),
             StartFault::Unwritable(path, error) => report_unwritable(rt, path, error),
-            StartFault::Unentered(path, why) => refuse(rt, path, why),
+            StartFault::Unentered(path, why) => print_fault(rt, path, why),
             StartFault::Limit(fault) => refuse_run(rt, line, fault),
             StartFault::NoCheckpoint(path, fault) => {
                 let _ = println!(rt; "{fault}");
@@ -97,7 +97,7 @@ impl StartFault<'_> {
             StartFault::Spool(folder, fault) => report_spool(rt, folder, fault),
             StartFault::NamedSpool(path, fault) => report_spool(rt, path.as_str(), fault),
             StartFault::LostSpool(path, checkpoint) => {
-                refuse(rt, path.as_str(), LostSpool(checkpoint))
+                print_fault(rt, path.as_str(), LostSpool(checkpoint))
             }
         }
     }
@@ -162,17 +162,9 @@ fn report_spool<R: ClientSystem>(rt: &R, path: &str, fault: SpoolFault) -> ExitS
     match fault {
         SpoolFault::Input(error) => report(rt, INPUT_NAME, error),
         SpoolFault::Spool(error) => report(rt, path, error),
-        SpoolFault::Empty => refuse(rt, INPUT_NAME, fault),
-        SpoolFault::Left => refuse(rt, path, fault),
+        SpoolFault::Empty => print_fault(rt, INPUT_NAME, fault),
+        SpoolFault::Left => print_fault(rt, path, fault),
     }
-}
-
-fn refuse<R: Eprint, M: Display + Drop>(rt: &R, what: &str, why: M) -> ExitStatus
-    ensures { result ≡ StartupError }
-{
-    let what = plain(what);
-    let _ = eprintln!(rt; "rdump: {what}: {why}");
-    ExitStatus::StartupError
 }
 
 #[derive(Clone, Copy)]

@@ -40,7 +40,7 @@ pub(crate) fn report_first<'a, R: ClientSystem>(
         if start.replaced > date {
             report_replaced(start)?;
         }
-        report_unwritable(rt, line.dumpdates)?;
+        report_dates_fault(rt, line.dumpdates)?;
     }
     Ok(())
 }
@@ -65,7 +65,7 @@ fn report_replaced<'a, R: ClientSystem>(start: &Start<'a, R>) -> Result<(), Star
     Ok(())
 }
 
-fn report_unwritable<'a, R: ClientSystem>(rt: &R, dumpdates: &str) -> Result<(), StartFault<'a>> {
+fn report_dates_fault<'a, R: ClientSystem>(rt: &R, dumpdates: &str) -> Result<(), StartFault<'a>> {
     match ReplacedFile::new(rt, rt.alloc(), dumpdates).find_fault() {
         None => Ok(()),
         Some(error) if error.kind() == ErrorKind::OutOfMemory => Err(StartFault::OutOfMemory),

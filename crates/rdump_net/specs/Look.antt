@@ -149,8 +149,8 @@ abbrev pub IsFailedPart : {P : Type 0} → (P → List Passed → Type 0) → Li
 IsFailedPart tells device from to p p' name (Refused number) = Goes tells device from (to (Refusal name number)) p p'
 IsFailedPart tells device from to p p' name (NoReply why) = Fails tells device from why p p'
 
--- from the stage `from` on the look makes further calls, up to the stage that has what it found; or
--- a call gets no reply
+-- From the stage `from` on the look makes further calls, up to the stage that `to` gives for what
+-- it found: the front of the reel, or that a call was refused. Or a call gets no reply.
 abbrev pub IsLookPart : {P : Type 0} → (P → List Passed → Type 0) → List ℕ → LookStage → (Finding → LookStage) → P → P
     → Result ReelFront TapeFault → Type 0
 IsLookPart tells device from to p p' (Ok front) = Goes tells device from (to (Front (plain_front front))) p p'

@@ -14,8 +14,8 @@ use Rattle.remote_tape.specs.Peer.{AreBytesSent, Logs, connected}
 use Rattle.remote_tape.specs.declared.peer.Passed.{Passed}
 use Rattle.remote_tape.specs.declared.peer.Passed.TheVariants.{Given, Ended}
 
--- the connection stays open, and the client's state is unchanged; or the connection ended, and the
--- client learned of it
+-- The connection stays open (true), and the client's state is unchanged. Or it ended (false), and
+-- the client learned of it.
 abbrev pub GoesOn : Bool → Standing → List ℕ → Standing → List ℕ → Type 0
 GoesOn true at fed new later = (new ≡ at) × (later ≡ fed)
 GoesOn false at fed new later = (progress : Progress) × CutAt at.stage at progress new × (later ≡ [])

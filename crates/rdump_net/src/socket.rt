@@ -30,6 +30,7 @@ pub struct SocketPeer<'a, R: Net + Clock> {
     timeout: Option<Duration>,
     stream: Option<Stream<R::Stream>>,
     failure: Option<io::Error>,
+    /// Whether the latest connection could not be made, or has received no byte so far.
     was_silent: bool,
 }
 

@@ -244,7 +244,7 @@ fn take_away<P: Peer>(
     }
 }
 
-/// Returns the number of records, the label included.
+/// Gives the sink the label and the blocks. Returns the number of records, the label included.
 fn give_volume<P: Peer, S: VolumeSink>(
     tape: &mut RemoteTape,
     peer: &mut P,

@@ -120,7 +120,7 @@ impl Part {
 fn open_or_create<R: Files<File = File>>(rt: &R, path: &str) -> io::Result<Option<File>> {
     let mut options = OpenOptions::new();
     options.read(true).append(true);
-    let missing = match found_at(rt, path)? {
+    let raced = match found_at(rt, path)? {
         Some(found) if !found.is_file() => return Err(no_plain_file()),
         Some(_) => ErrorKind::NotFound,
         None => {
@@ -130,7 +130,7 @@ fn open_or_create<R: Files<File = File>>(rt: &R, path: &str) -> io::Result<Optio
     };
     match options.open(rt, path) {
         Ok(file) => Ok(Some(file)),
-        Err(error) if error.kind() == missing => Ok(None),
+        Err(error) if error.kind() == raced => Ok(None),
         Err(error) => Err(error),
     }
 }

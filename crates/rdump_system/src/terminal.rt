@@ -1,9 +1,10 @@
-//! `may_be_terminal`.
+//! Whether standard output is a terminal.
 
 use crate::ClientSystem;
 use std::fs;
 use std::os::unix::fs::FileTypeExt;
 
+/// Standard output, as a path.
 const OUTPUT: &str = "/proc/self/fd/1";
 
 /// Returns whether standard output may be a terminal: it is a character device, or the system does

@@ -42,16 +42,16 @@ abbrev pub HasCause : {P : Type 0} → (P → List Passed → Type 0) → PlainR
 HasCause tells request p p' (Refused number) = (text : List ℕ) × IsCalled tells request (Ok (Error number text)) p p'
 HasCause tells request p p' (NoReply fault) = IsCalled tells request (Err fault) p p'
 
--- `request` was sent over a peer, and failed; the fault names it as `name`, and has the cause
+-- `request` was made over a peer, and failed; the fault names it as `name`, and has the cause
 abbrev pub HasFailed : {P : Type 0} → (P → List Passed → Type 0) → TapeRequest → PlainRequest → P → P → TapeFault → Type 0
 HasFailed tells name request p p' fault = (fault.request ≡ name) × HasCause tells request p p' fault.cause
 
--- `request` was sent over a peer: it was done, or it failed
+-- `request` was made over a peer: it was done, or it failed, perhaps before it was sent
 abbrev pub IsAsked : {P : Type 0} → (P → List Passed → Type 0) → TapeRequest → PlainRequest → P → P → Result Unit TapeFault → Type 0
 IsAsked tells name request p p' (Ok x) = (number : ℕ) × IsCalled tells request (Ok (Done number)) p p'
 IsAsked tells name request p p' (Err fault) = HasFailed tells name request p p' fault
 
--- a read of at most `most` bytes was sent over a peer: these bytes came, or it failed
+-- a read of at most `most` bytes was made over a peer: these bytes came, or it failed
 abbrev pub IsRecordRead : {P : Type 0} → (P → List Passed → Type 0) → ℕ → P → P → Result (Bor (List ℕ)) TapeFault → Type 0
 IsRecordRead tells most p p' (Ok bytes) = IsCalled tells (Read most) (Ok (Data bytes.now)) p p'
 IsRecordRead tells most p p' (Err fault) = HasFailed tells named.Read (Read most) p p' fault

@@ -9,6 +9,8 @@ use std::rt::Files;
 
 const NOT_LEFT: &str = "its .new is not one that rdump left: it is not touched";
 
+const LOST: &str = "its .new was taken away or written: another run may have replaced it";
+
 /// A lock that this run has.
 ///
 /// If this is dropped, the lock is removed and then unlocked. It stays if it has got bytes, or if
@@ -42,6 +44,18 @@ impl<'a, R: Files<File = File>> LockFile<'a, R> {
             Err(error) => Err(of_new(alloc, error)),
         }
     }
+
+    pub(crate) fn system(&self) -> &'a R {
+        self.rt
+    }
+
+    /// Fails if this run has lost the lock: whoever takes the name of the lock away takes the lock.
+    pub(crate) fn check(&self) -> io::Result<()> {
+        if is_ours(self.rt, self.path.as_str(), &self.file)? {
+            return Ok(());
+        }
+        Err(io::Error::new(ErrorKind::Other, LOST))
+    }
 }
 
 pub(crate) fn beside(alloc: Global, named: Path<'_>) -> io::Result<String> {
@@ -59,6 +73,8 @@ pub(crate) fn of_new(alloc: Global, error: io::Error) -> io::Error {
     }
 }
 
+/// Returns none if another run has the lock. A lock that was made here is removed if it cannot be
+/// locked.
 fn try_lock_at<R: Files<File = File>>(rt: &R, path: &str, mode: u32) -> io::Result<Option<File>> {
     let (file, is_made) = match create_new(rt, path, mode) {
         Ok(file) => (file, true),

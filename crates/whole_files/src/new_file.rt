@@ -1,6 +1,6 @@
 //! Puts a text in place of a file, through a new file.
 
-use crate::lock_file::of_new;
+use crate::lock_file::{LockFile, of_new};
 use crate::open_file::{create_numbered, remove_own};
 use crate::replaced_file::Form;
 use std::alloc::Global;
@@ -11,30 +11,51 @@ use std::os::unix::fs::{MetadataExt, fchown};
 use std::path::PathBuf;
 use std::rt::Files;
 
-/// Writes the text to a new file, syncs it and renames it. The new file has the old name, `.new.`
-/// and the first free number from 1 on.
+/// Writes the text to a new file, syncs it and renames it, if this run still has the lock. The new
+/// file has the old name, `.new.` and the first free number from 1 on.
 ///
 /// After an error the file at `named` is as it was, and the new file is removed.
 pub(crate) fn put_text<R: Files<File = File>>(
-    rt: &R,
+    lock: &LockFile<'_, R>,
     alloc: Global,
     named: &PathBuf,
     form: Form,
     text: &[u8],
 ) -> io::Result<File> {
+    let rt = lock.system();
     let (path, mut file) = create_beside(rt, alloc, named, form)?;
     take_rights(rt, named, form, &file);
-    let put = match write_synced(&mut file, text) {
-        Ok(()) => fs::rename(rt, path.as_str(), named),
-        Err(error) => Err(error),
-    };
-    match put {
+    match place(lock, path.as_str(), named, &mut file, text) {
         Ok(()) => Ok(file),
         Err(error) => {
             let _ = remove_own(rt, path.as_str(), &file);
             Err(error)
         }
     }
+}
+
+fn place<R: Files<File = File>>(
+    lock: &LockFile<'_, R>,
+    path: &str,
+    named: &PathBuf,
+    file: &mut File,
+    text: &[u8],
+) -> io::Result<()> {
+    write_synced(file, text)?;
+    lock.check()?;
+    fs::rename(lock.system(), path, named)
+}
+
+/// Creates a new file, as `put_text` does, and removes it.
+pub(crate) fn try_new<R: Files<File = File>>(
+    rt: &R,
+    alloc: Global,
+    named: &PathBuf,
+    form: Form,
+) -> io::Result<()> {
+    let (path, file) = create_beside(rt, alloc, named, form)?;
+    remove_own(rt, path.as_str(), &file)?;
+    Ok(())
 }
 
 fn create_beside<R: Files<File = File>>(
@@ -55,6 +76,8 @@ fn create_beside<R: Files<File = File>>(
     }
 }
 
+/// Gives the new file the owner and the group of the old one and, if it is shared, its permissions,
+/// as far as the system allows.
 fn take_rights<R: Files<File = File>>(rt: &R, named: &PathBuf, form: Form, file: &File) {
     let Ok(found) = fs::metadata(rt, named) else {
         return;

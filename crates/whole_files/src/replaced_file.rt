@@ -2,7 +2,7 @@
 
 use crate::lock_file::{LockFile, beside};
 use crate::named::{named_file, sync_folder};
-use crate::new_file::put_text;
+use crate::new_file::{put_text, try_new};
 use crate::open_file::{PRIVATE_MODE, found_as, found_at, remove_own, taken};
 use crate::read::{open_if_there, read_limited};
 use crate::{FileFailed, WholeFile};
@@ -40,7 +40,8 @@ impl Form {
 /// It is read and replaced under its lock, an empty file beside it with `.new` after its name. A
 /// killed run may leave the lock, which the next one takes, and a new text in a file `.new.N`,
 /// which nothing removes. If what has the name of the lock is not an empty regular file, it is not
-/// touched, and the call fails with `AlreadyExists`.
+/// touched, and the call fails with `AlreadyExists`. If the lock was taken away or written, nothing
+/// is replaced, and the call fails with `Other`.
 ///
 /// A file made by `new` is locked from a read until the text is in place or this is dropped. A run
 /// waits for the lock for ten seconds, and then fails with `TimedOut`.
@@ -100,10 +101,17 @@ impl<'a, R: Files<File = File> + Clock> ReplacedFile<'a, R> {
         failure
     }
 
-    /// Takes the lock, and releases it again. Returns the error if that fails, and none if another
-    /// run has the lock.
+    /// Takes the lock, creates a new file, and removes both. Returns the error if that fails, and
+    /// none if another run has the lock.
     pub fn find_fault(&self) -> Option<io::Error> {
-        self.try_lock().err()
+        self.try_replacing().err()
+    }
+
+    fn try_replacing(&self) -> io::Result<()> {
+        match self.try_lock()? {
+            Some(locked) => try_new(self.rt, self.alloc, &locked.named, self.form),
+            None => Ok(()),
+        }
     }
 
     /// Returns the path of the lock, if a regular file that is not empty is there: no `rdump` left
@@ -155,18 +163,18 @@ impl<'a, R: Files<File = File> + Clock> ReplacedFile<'a, R> {
         }
     }
 
+    /// Returns none if another run has the lock.
     fn try_lock(&self) -> io::Result<Option<Locked<'a, R>>> {
         let named = named_file(self.rt, self.alloc, self.path)?;
         let mode = self.form.mode();
-        let lock = LockFile::try_take(self.rt, self.alloc, named.as_path(), mode)?;
-        match lock {
-            None => Ok(None),
-            lock => Ok(Some(Locked {
-                named,
-                lock,
-                placed: None,
-            })),
-        }
+        let Some(lock) = LockFile::try_take(self.rt, self.alloc, named.as_path(), mode)? else {
+            return Ok(None);
+        };
+        Ok(Some(Locked {
+            named,
+            lock: Some(lock),
+            placed: None,
+        }))
     }
 
     fn lock(&mut self) -> io::Result<Locked<'a, R>> {
@@ -228,7 +236,11 @@ impl<'a, R: Files<File = File>> Locked<'a, R> {
         if form == Form::Held {
             self.check_place(rt)?;
         }
-        self.placed = Some(put_text(rt, alloc, &self.named, form, text)?);
+        let placed = match &self.lock {
+            Some(lock) => put_text(lock, alloc, &self.named, form, text)?,
+            None => return Err(taken()),
+        };
+        self.placed = Some(placed);
         if form == Form::Shared {
             self.lock = None;
         }
