@@ -199,18 +199,18 @@ impl<'s, 'a, R: ClientSystem, T: Write + Copy + Drop, F: FailingFile> Attendant<
         };
     }
 
-    /// Removes the payload beside the checkpoint, if there is one. If that fails, prints why and
-    /// returns false.
-    pub(crate) fn remove_spool(&self) -> bool {
-        let (Some(spool), Some(path)) = (&self.kept.spool, &self.start.spool_path) else {
-            return true;
-        };
-        let Err(error) = spool.remove() else {
-            return true;
-        };
-        let path = plain(path.as_str());
-        let _ = eprintln!(self.start.rt; "rdump: {path}: it could not be removed: {error}");
-        false
+    /// Removes the payload beside the checkpoint. Returns none if there is no such file.
+    pub(crate) fn remove_spool(&self) -> Option<io::Result<()>> {
+        let spool = self.kept.spool.as_ref()?;
+        Some(spool.remove())
+    }
+
+    fn spool_path(&self) -> &'s str {
+        let start = self.start;
+        match &start.spool_path {
+            Some(path) => path.as_str(),
+            None => "",
+        }
     }
 
     fn checkpoint_path(&self) -> &'a str {
@@ -335,11 +335,11 @@ impl<'s, 'a, R: ClientSystem, T: Write + Copy + Drop, F: FailingFile, B: Blocks>
         self.clear();
         let start = self.start;
         let Some(unattended) = &mut self.unattended else {
-            if start.is_piped {
-                // What standard input gives is the payload, and no answer.
-                return Reply::Abandon;
-            }
-            return self.operator.answer();
+            // What standard input gives is the payload, and no answer.
+            return match start.is_piped {
+                true => Reply::Abandon,
+                false => self.operator.answer(),
+            };
         };
         if unattended.waits(start.rt, self.setback) {
             return Reply::Retry;
@@ -385,11 +385,13 @@ impl<'s, 'a, R: ClientSystem, T: Write + Copy + Drop, F: FailingFile, B: Blocks>
     }
 
     fn forget(&mut self) -> bool {
+        let (rt, path) = (self.start.rt, plain(self.checkpoint_path()));
         // A checkpoint without its payload is reported, so the payload goes first.
-        if !self.remove_spool() {
+        if let Some(Err(error)) = self.remove_spool() {
+            let spool = plain(self.spool_path());
+            let _ = eprintln!(rt; "rdump: {spool}: it could not be removed: {error}");
             return false;
         }
-        let (rt, path) = (self.start.rt, plain(self.checkpoint_path()));
         let Some(file) = &mut self.kept.checkpoint else {
             return true;
         };

@@ -176,7 +176,7 @@ fn run_client<'a, R: ClientSystem, B: Blocks + Drop, T: Write + Copy + Drop>(
         Conclusion::Complete => report_end(start, &client),
         Conclusion::Unkept if start.has_new_spool && client.counted().is_empty() => {
             // There is no checkpoint that could go on with the payload.
-            attendant.remove_spool();
+            let _ = attendant.remove_spool();
         }
         _ => {}
     }

@@ -300,13 +300,14 @@ impl<'a, R: ClientSystem> Start<'a, R> {
         };
         let spool = at(other_path, FileId::of_path(rt, alloc, path))?;
         let known = at(other_path, FileId::of_path(rt, alloc, other_path))?;
-        match (spool, known) {
-            (Some(spool), Some(known)) if spool.is(&known) => {
-                let file = DumpFile::Payload;
-                Err(StartFault::Same(other_path, SameFile { file, other }))
-            }
-            _ => Ok(()),
+        let (Some(spool), Some(known)) = (spool, known) else {
+            return Ok(());
+        };
+        if spool.is(&known) {
+            let file = DumpFile::Payload;
+            return Err(StartFault::Same(other_path, SameFile { file, other }));
         }
+        Ok(())
     }
 
     pub(crate) fn run<M: Medium + Drop>(
